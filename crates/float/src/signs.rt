@@ -1,0 +1,16 @@
+// A double without its sign.
+ghost use mathlib.Core.Path.{_≡_};
+ghost use Rattle.float.specs.Magnitude.{magnitudeOf};
+
+// |x|: of −0 it is +0, of either infinity +infinity, of NaN a NaN.
+pub fn magnitude(x: f64) -> f64
+    ensures { λ r. ⌜ r ≡ magnitudeOf x ⌝ }
+{
+    if x < 0.0 {
+        return -x;
+    }
+    if x == 0.0 {
+        return 0.0;
+    }
+    x
+}
