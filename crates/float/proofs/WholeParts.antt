@@ -8,7 +8,7 @@ use mathlib.Core.Bool.{Bool, true, false, not, cond, true≢false, false≢true}
 use lib.Dec.{T, ltb, leb, eqb, eqb→eq, not-T, lit≤}
 use lib.IntN.{ℤ, pos, negsuc, negℤ, _-ℤ_}
 use lib.Pow.{pow-add, pow-pos, pow-mono, shl-lt}
-use lib.Ieee.{Float, nan, inf, fin, Format, binary64, up, down, odd, ofFields, isNan, toBits, fits, ne}
+use lib.Ieee.{Float, nan, inf, fin, Format, binary64, up, down, odd, ofFields, toSigned, isNan, toBits, fits, ne}
 use lib.Ieee.Bits.{cond-no, ofBits-toBits}
 use lib.Ieee.Compare.{differs-from-itself}
 use Rattle.float.proofs.Patterns.{unsigned, above}
@@ -178,3 +178,15 @@ minus-one-less (suc k) = ap (λ (y : ℕ). negsuc (suc y)) (zero-add k)
 pub negated : (m : ℕ) → (m ≡ 0 → ⊥) → negsuc (m - 1) ≡ negℤ (pos m)
 negated zero h = absurd (h refl)
 negated (suc m) h = let e : suc m - 1 ≡ m = omega arith in ap negsuc e
+
+-- the definition is the cast's: `as i64` of the language's account of IEEE 754
+pub truncated-is-cast : (x : Float) → truncatedOf x ≡ toSigned 63 x
+unfolding truncatedOf wholePart toSigned
+truncated-is-cast nan = refl
+truncated-is-cast (inf true) = refl
+truncated-is-cast (inf false) = refl
+truncated-is-cast (fin true m e) = refl
+truncated-is-cast (fin false m e) = ap pos (once (m * up e / down e))
+  where
+    once : (w : ℕ) → min (min w 9223372036854775808) 9223372036854775807 ≡ min w 9223372036854775807
+    once w = omega arith

@@ -1,0 +1,3 @@
+-- What the proofs of chebyshev share, and the laws that the crates above cite (`pub`).
+pub mod Filled
+pub mod Sums

@@ -1,0 +1,3 @@
+-- The definitions of chebyshev: what each entry's answer is.
+pub mod Lists
+pub mod Recurrence

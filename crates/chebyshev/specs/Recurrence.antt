@@ -1,0 +1,89 @@
+-- The Chebyshev polynomials by DLMF 18.9's recurrence, their derivatives by the recurrence differentiated, and sums of ten of them.
+-- Each is written once, over an arithmetic: `rounded` is a double's, each operation rounded once, and `exact` works on whole numbers over
+-- powers of two and rounds nothing. So the rounded recurrence is the exact one with each operation rounded.
+use Prim.Native.Nat.{ℕ, zero, suc, _+_, _*_, _^_}
+use mathlib.Core.List.{List, [], _∷_}
+use lib.IntN.{ℤ, pos, _+ℤ_, _-ℤ_, _*ℤ_}
+use mathlib.Core.Bool.{false}
+use lib.Ieee.{Float, fin, binary64, add, sub, mul}
+use Rattle.chebyshev.specs.Lists.{listOf}
+
+-- what the recurrence needs of a number
+pub record Arithmetic (A : Type 0) : Type 0 where
+  pub nought : A
+  pub unity : A
+  pub two : A
+  pub plus : A → A → A
+  pub less : A → A → A
+  pub times : A → A → A
+
+-- T0 = 1, T1 = τ, Tj = 2τ T(j−1) − T(j−2)
+unfoldable pub T : {A : Type 0} → Arithmetic A → A → ℕ → A
+T a τ zero = a .unity
+T a τ (suc zero) = τ
+T a τ (suc (suc j)) = a .less (a .times (a .times (a .two) τ) (T a τ (suc j))) (T a τ j)
+
+-- the derivative: T′0 = 0, T′1 = 1, T′j = 2 T(j−1) + 2τ T′(j−1) − T′(j−2)
+unfoldable pub T′ : {A : Type 0} → Arithmetic A → A → ℕ → A
+unfolding T
+T′ a τ zero = a .nought
+T′ a τ (suc zero) = a .unity
+T′ a τ (suc (suc j)) = a .less (a .plus (a .times (a .two) (T a τ (suc j))) (a .times (a .times (a .two) τ) (T′ a τ (suc j)))) (T′ a τ j)
+
+-- how many polynomials a sum has
+abbrev pub terms : ℕ
+terms = 10
+
+-- T0 to T9 at τ, and their derivatives there
+abbrev pub polynomials : {A : Type 0} → Arithmetic A → A → List A
+polynomials a τ = listOf (T a τ) terms 0
+
+abbrev pub derivatives : {A : Type 0} → Arithmetic A → A → List A
+derivatives a τ = listOf (T′ a τ) terms 0
+
+-- s + c0 t0 + c1 t1 + .., one term after the other
+unfoldable pub weightedFrom : {A : Type 0} → Arithmetic A → A → List A → List A → A
+weightedFrom a s [] ts = s
+weightedFrom a s (c ∷ cs) [] = s
+weightedFrom a s (c ∷ cs) (t ∷ ts) = weightedFrom a (a .plus s (a .times c t)) cs ts
+
+-- "Sums start at 0.0, j from 0 to 9"
+abbrev pub weighted : {A : Type 0} → Arithmetic A → List A → List A → A
+weighted a c t = weightedFrom a (a .nought) c t
+
+-- the sum with the coefficients c at τ, and its slope
+abbrev pub valueOf : {A : Type 0} → Arithmetic A → List A → A → A
+valueOf a c τ = weighted a c (polynomials a τ)
+
+abbrev pub slopeOf : {A : Type 0} → Arithmetic A → List A → A → A
+slopeOf a c τ = weighted a c (derivatives a τ)
+
+-- doubles: each operation rounds once
+abbrev pub rounded : Arithmetic Float
+rounded = record {
+  nought = fin false 0 (pos 0);
+  unity = fin false 1 (pos 0);
+  two = fin false 1 (pos 1);
+  plus = add binary64;
+  less = sub binary64;
+  times = mul binary64;
+}
+
+-- a whole number over a power of two, over / 2 ^ places: every finite double is one
+pub record Dyadic : Type 0 where
+  pub over : ℤ
+  pub places : ℕ
+
+abbrev pub shifted : ℤ → ℕ → ℤ
+shifted z k = z *ℤ pos (2 ^ k)
+
+-- whole numbers over powers of two: nothing is rounded
+abbrev pub exact : Arithmetic Dyadic
+exact = record {
+  nought = record { over = pos 0; places = 0 };
+  unity = record { over = pos 1; places = 0 };
+  two = record { over = pos 2; places = 0 };
+  plus = λ x y. record { over = shifted (x .over) (y .places) +ℤ shifted (y .over) (x .places); places = x .places + y .places };
+  less = λ x y. record { over = shifted (x .over) (y .places) -ℤ shifted (y .over) (x .places); places = x .places + y .places };
+  times = λ x y. record { over = x .over *ℤ y .over; places = x .places + y .places };
+}
