@@ -1,3 +1,5 @@
 -- What the proofs of chebyshev share, and the laws that the crates above cite (`pub`).
 pub mod Filled
 pub mod Sums
+mod Rows
+mod Columns

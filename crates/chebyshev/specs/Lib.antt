@@ -1,3 +1,5 @@
 -- The definitions of chebyshev: what each entry's answer is.
 pub mod Lists
 pub mod Recurrence
+pub mod Inverse
+pub mod Ideal

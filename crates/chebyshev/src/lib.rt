@@ -1,6 +1,11 @@
 // Chebyshev sums of ten terms, and the inversion of the ten by ten matrix that their coefficients come from.
+mod ideal;
+mod inverse;
 mod recurrence;
 
+pub use ideal::ideal_columns;
+pub use inverse::Inverse;
+pub use inverse::invert_matrix_10;
 pub use recurrence::Evaluation;
 pub use recurrence::evaluate_chebyshev;
 pub use recurrence::slopes_at;

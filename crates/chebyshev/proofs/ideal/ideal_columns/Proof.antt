@@ -1,0 +1,17 @@
+-- The table is the inversion of the ideal matrix, by computation: the matrix is worked out, inverted by the definition, and each double compared.
+-- Assumes nothing.
+use mathlib.Core.Path.{_≡_, refl, ap, _∙_}
+use lib.Ieee.{ofBits, add, sub, mul, div, lt, ofInt, neg}
+use Rattle.float.specs.Magnitude.{magnitudeOf}
+use Rattle.chebyshev.specs.Lists.{listOf}
+use Rattle.chebyshev.specs.Recurrence.{T}
+use Rattle.chebyshev.specs.Inverse.{inverted, columnsFrom, seek, cleared, reduced, divided}
+use Rattle.chebyshev.proofs.ideal.ideal_columns.Statement.{statement}
+use Rattle.chebyshev.proofs.ideal.ideal_columns.Tie as tie
+
+returns : tie.Need-returns
+unfolding inverted columnsFrom seek cleared reduced divided listOf T add sub mul div lt ofInt ofBits neg magnitudeOf
+returns c = refl
+
+pub ideal-columns-spec : {M : Type 1} → statement M
+ideal-columns-spec = tie.close (tie.spec returns)

@@ -1,0 +1,20 @@
+-- The ideal nodes of an even window and the matrix of the polynomials there, which the `OnceLock` of the Rust keeps inverted.
+use Prim.Native.Nat.{ℕ}
+use lib.IntN.{pos}
+use mathlib.Core.Bool.{true, false}
+use lib.Ieee.{Float, fin, binary64, add, mul, div, ofInt}
+use Rattle.chebyshev.specs.Lists.{listOf}
+use Rattle.chebyshev.specs.Recurrence.{rounded, polynomials, terms}
+use Rattle.chebyshev.specs.Inverse.{Matrix, column, order}
+
+-- "ideal nodes −1 + 2k/9": −1.0 + ((2.0 × k) / 9.0), each operation rounded once
+abbrev pub idealNode : ℕ → Float
+idealNode k = add binary64 (fin true 1 (pos 0)) (div binary64 (mul binary64 (fin false 1 (pos 1)) (ofInt binary64 (pos k))) (fin false 9 (pos 0)))
+
+-- row k holds T0 to T9 at node k
+abbrev pub idealMatrix : Matrix
+idealMatrix = listOf (λ k. polynomials rounded (idealNode k)) order 0
+
+-- rows and columns exchanged
+abbrev pub transposed : Matrix → Matrix
+transposed m = listOf (λ c. column c m) order 0

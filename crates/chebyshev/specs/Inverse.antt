@@ -1,0 +1,150 @@
+-- The inverse of a ten by ten matrix of doubles by Gauss-Jordan elimination, "a column's pivot" found as document 01 says. A matrix is a
+-- list of ten rows of ten doubles, and each operation on doubles rounds once.
+use Prim.Native.Nat.{ℕ, zero, suc, _+_, _-_, _*_, _/_, _%_}
+use mathlib.Core.Path.{_≡_}
+use mathlib.Core.Bool.{Bool, true, false, not}
+use mathlib.Core.List.{List, [], _∷_}
+use lib.Dec.{eqb}
+use lib.ListN.{getD, set, replicate}
+use lib.IntN.{pos}
+use lib.Ieee.{Float, nan, fin, binary64, sub, mul, div, lt, ofBits}
+use Rattle.float.specs.Magnitude.{magnitudeOf}
+use Rattle.chebyshev.specs.declared.inverse.Inverse.{Inverse}
+use Rattle.chebyshev.specs.Lists.{listOf}
+
+abbrev pub Row : Type 0
+Row = List Float
+
+abbrev pub Matrix : Type 0
+Matrix = List Row
+
+-- rows, and numbers in a row
+abbrev pub order : ℕ
+order = 10
+
+-- +0.0 and 1.0
+abbrev pub nought : Float
+nought = fin false 0 (pos 0)
+
+abbrev pub unity : Float
+unity = fin false 1 (pos 0)
+
+-- 1e-12, the smallest pivot that is taken: 4951760157141521 / 2 ^ 92
+abbrev pub leastPivot : Float
+leastPivot = ofBits binary64 4427486594234968593
+
+-- the refusal of a singular matrix
+abbrev pub singularRefusal : ℕ
+singularRefusal = 8
+
+-- the number at row r, column c
+abbrev pub cell : Matrix → ℕ → ℕ → Float
+cell m r c = getD (getD m r []) c nan
+
+abbrev pub choose : {A : Type 0} → Bool → A → A → A
+choose true a b = a
+choose false a b = b
+
+-- each number of a row divided by p
+unfoldable pub divided : Float → Row → Row
+divided p [] = []
+divided p (x ∷ xs) = div binary64 x p ∷ divided p xs
+
+-- a row less k times another
+unfoldable pub reduced : Float → Row → Row → Row
+reduced k [] ps = []
+reduced k (x ∷ xs) [] = x ∷ xs
+reduced k (x ∷ xs) (p ∷ ps) = sub binary64 x (mul binary64 k p) ∷ reduced k xs ps
+
+-- column c, from the first row to the last
+abbrev pub column : ℕ → Matrix → Row
+column c m = listOf (λ r. cell m r c) order 0
+
+-- rows i and j exchanged
+abbrev pub exchanged : ℕ → ℕ → Matrix → Matrix
+exchanged i j m = set (set m i (getD m j [])) j (getD m i [])
+
+-- "The diagonal is the pivot unless a later row's magnitude compares greater than the best so far, so the first of equals wins":
+-- of best and the n rows from r on, the row that column c takes its pivot from. A NaN compares greater than nothing, and nothing than it
+unfoldable pub seek : ℕ → ℕ → ℕ → Matrix → ℕ → ℕ
+seek zero c r m best = best
+seek (suc n) c r m best = seek n c (r + 1) m (choose (lt (magnitudeOf (cell m best c)) (magnitudeOf (cell m r c))) r best)
+
+abbrev pub pivotRow : ℕ → Matrix → ℕ
+pivotRow i t = seek (order - (i + 1)) i (i + 1) t i
+
+-- "has a magnitude below 1e-12"; a NaN is not below it
+abbrev pub tooSmall : ℕ → Matrix → Bool
+tooSmall i t = lt (magnitudeOf (cell t (pivotRow i t) i)) leastPivot
+
+-- row i divided by p
+abbrev pub scaledAt : ℕ → Float → Matrix → Matrix
+scaledAt i p m = set m i (divided p (getD m i []))
+
+-- every row but row i, less its factor times ps. The first row is row r
+unfoldable pub cleared : ℕ → Row → ℕ → Row → Matrix → Matrix
+cleared i ps r ks [] = []
+cleared i ps r [] (x ∷ xs) = x ∷ xs
+cleared i ps r (k ∷ ks) (x ∷ xs) = choose (eqb r i) x (reduced k x ps) ∷ cleared i ps (r + 1) ks xs
+
+abbrev pub clearedBy : ℕ → Row → Matrix → Matrix
+clearedBy i ks m = cleared i (getD m i []) 0 ks m
+
+-- one column of the elimination: t, the matrix, with its pivot row exchanged into row i and divided by the pivot, and column i cleared out of
+-- the other rows; m, which is t itself or the inverse so far, with the same done to it
+abbrev pub scaledPivot : ℕ → Matrix → Matrix → Matrix
+scaledPivot i t m = let j = pivotRow i t in scaledAt i (cell (exchanged i j t) i i) (exchanged i j m)
+
+abbrev pub clearedColumn : ℕ → Matrix → Matrix → Matrix
+clearedColumn i t m = clearedBy i (column i (scaledPivot i t t)) (scaledPivot i t m)
+
+-- what one column leaves: the answer, whether the pivot was taken, and both matrices
+pub record Cleared (i : ℕ) (t v : Matrix) (taken : Bool) (t′ v′ : Matrix) : Type 0 where
+  pub answer : taken ≡ not (tooSmall i t)
+  pub matrix : tooSmall i t ≡ false → t′ ≡ clearedColumn i t t
+  pub inverse : tooSmall i t ≡ false → v′ ≡ clearedColumn i t v
+
+pub data Outcome : Type 0 where
+  singular : Outcome
+  inverse : Matrix → Outcome
+
+-- the n columns from i on
+unfoldable pub columnsFrom : ℕ → ℕ → Matrix → Matrix → Outcome
+columnsFrom zero i t v = inverse v
+columnsFrom (suc n) i t v =
+    elim (tooSmall i t) [
+      | true ↦ singular
+      | false ↦
+          let t1 = scaledPivot i t t in
+          let v1 = scaledPivot i t v in
+          let ks = column i t1 in
+          columnsFrom n (i + 1) (clearedBy i ks t1) (clearedBy i ks v1)
+    ]
+
+-- the identity's numbers
+abbrev pub unitCell : ℕ → ℕ → Float
+unitCell r c = choose (eqb c r) unity nought
+
+abbrev pub unitRows : Matrix
+unitRows = listOf (λ r. listOf (unitCell r) order 0) order 0
+
+-- the inverse of a, or singular
+unfoldable pub inverted : Matrix → Outcome
+inverted a = columnsFrom order 0 a unitRows
+
+-- "in the inverse's answer it is 100 doubles, row after row": number 10 r + c is row r, column c
+abbrev pub flat : Matrix → Row
+flat m = listOf (λ k. cell m (k / order) (k % order)) (order * order) 0
+
+-- the paper's number of each case, and its values: "an array ... that the language makes stand beside it is all zeros"
+abbrev pub refusalOf : Outcome → ℕ
+refusalOf singular = singularRefusal
+refusalOf (inverse v) = 0
+
+abbrev pub rowsOf : Outcome → Matrix
+rowsOf singular = replicate order (replicate order nought)
+rowsOf (inverse v) = v
+
+abbrev pub answerOf : Outcome → Inverse
+answerOf singular = record { refusal = singularRefusal; numbers = replicate (order * order) nought }
+answerOf (inverse v) = record { refusal = 0; numbers = flat v }
