@@ -1,0 +1,132 @@
+//! Slices the named items out of the Rust's orbit.rs, and names our static library to the linker.
+//!
+//! ORBIT_SOURCE is the folder that holds src/orbit.rs, ORBIT_LIBRARY the path of our library.
+
+use std::path::{Path, PathBuf};
+use std::{env, fs};
+
+/// The header lines of the items that are taken, each at the start of a line.
+const ITEMS: [&str; 7] = [
+    "pub struct Sp3Coordinate {",
+    "pub struct SatelliteOrbit {",
+    "impl SatelliteOrbit {",
+    "pub struct ChebyshevOrbit {",
+    "impl ChebyshevOrbit {",
+    "fn invert_matrix_10(",
+    "fn evaluate_chebyshev(",
+];
+
+/// The words that are struck out of the attributes above an item; nothing else is changed.
+const STRUCK_OUT: [&str; 2] = [", serde::Serialize", ", serde::Deserialize"];
+
+fn main() {
+    let source = path_in("ORBIT_SOURCE").join("src/orbit.rs");
+    println!("cargo::rerun-if-changed={}", source.display());
+    let text = fs::read_to_string(&source)
+        .unwrap_or_else(|error| panic!("cannot read {}: {error}", source.display()));
+    let sliced: String = ITEMS.iter().map(|header| slice(&text, header)).collect();
+    let output = path_in("OUT_DIR").join("orbit_sliced.rs");
+    fs::write(&output, sliced)
+        .unwrap_or_else(|error| panic!("cannot write {}: {error}", output.display()));
+    link(&path_in("ORBIT_LIBRARY"));
+}
+
+/// The path that an environment variable holds.
+fn path_in(name: &str) -> PathBuf {
+    println!("cargo::rerun-if-env-changed={name}");
+    PathBuf::from(env::var_os(name).unwrap_or_else(|| panic!("{name} is not set; use compare/run")))
+}
+
+/// Links our library into the judge alone: the program that writes the cases never sees it.
+fn link(library: &Path) {
+    println!("cargo::rerun-if-changed={}", library.display());
+    println!("cargo::rustc-link-arg-bin=compare={}", library.display());
+}
+
+/// One item with the attributes above it, from its header to the brace that closes it.
+fn slice(text: &str, header: &str) -> String {
+    let start = only_line_starting_with(text, header);
+    let end = start + length_to_closing_brace(&text[start..], header);
+    assert!(
+        text[..end].ends_with("\n}"),
+        "`{header}` is not closed at the start of a line"
+    );
+    format!(
+        "{}{}\n\n",
+        attributes_above(&text[..start]),
+        &text[start..end]
+    )
+}
+
+/// Where the one line begins that starts with the header.
+fn only_line_starting_with(text: &str, header: &str) -> usize {
+    let mut places = text
+        .match_indices(header)
+        .map(|(place, _)| place)
+        .filter(|&place| place == 0 || text[..place].ends_with('\n'));
+    let place = places
+        .next()
+        .unwrap_or_else(|| panic!("`{header}` is not in orbit.rs"));
+    assert!(
+        places.next().is_none(),
+        "`{header}` stands twice in orbit.rs"
+    );
+    place
+}
+
+/// The bytes up to and with the brace that closes the first one; strings and line comments are passed over.
+fn length_to_closing_brace(text: &str, header: &str) -> usize {
+    let bytes = text.as_bytes();
+    let mut depth = 0;
+    let mut at = 0;
+    while at < bytes.len() {
+        match bytes[at] {
+            b'"' => at += string_length(&bytes[at..]) - 1,
+            b'/' if bytes[at..].starts_with(b"//") => at += line_length(&bytes[at..]) - 1,
+            b'{' => depth += 1,
+            b'}' if depth == 1 => return at + 1,
+            b'}' => depth -= 1,
+            _ => {}
+        }
+        at += 1;
+    }
+    panic!("`{header}` is never closed");
+}
+
+/// The length of the string literal that begins here, both quotes counted.
+fn string_length(bytes: &[u8]) -> usize {
+    let mut at = 1;
+    while bytes[at] != b'"' {
+        at += if bytes[at] == b'\\' { 2 } else { 1 };
+    }
+    at + 1
+}
+
+/// The length of the rest of the line, without its line feed.
+fn line_length(bytes: &[u8]) -> usize {
+    bytes
+        .iter()
+        .position(|&byte| byte == b'\n')
+        .unwrap_or(bytes.len())
+}
+
+/// The attribute lines that stand directly above an item, with the words of serde struck out.
+fn attributes_above(text: &str) -> String {
+    let above: Vec<&str> = text
+        .lines()
+        .rev()
+        .take_while(|line| line.starts_with("#["))
+        .collect();
+    above
+        .iter()
+        .rev()
+        .map(|line| strike_out(line) + "\n")
+        .collect()
+}
+
+/// The line without the words that are struck out.
+fn strike_out(line: &str) -> String {
+    STRUCK_OUT
+        .iter()
+        .fold(line.to_string(), |line, word| line.replace(word, ""))
+}

@@ -1,0 +1,48 @@
+//! Our side: the functions of the static library, with the signatures of its C interface.
+
+use compare::inputs::matrices::Matrix;
+use compare::inputs::polynomials::Polynomial;
+
+/// The refusal's number of an inverse whose pivot is too small.
+pub const PIVOT_TOO_SMALL: u8 = 8;
+
+// Each reference is one plain pointer to all of its doubles; a matrix lies row after row.
+unsafe extern "C" {
+    safe fn orbit_sqrt(x: f64) -> f64;
+    safe fn orbit_nearest(n: i64) -> f64;
+    safe fn orbit_truncated(x: f64) -> i64;
+    safe fn orbit_evaluate_chebyshev(c: &[f64; 10], tau: f64, value: &mut f64, slope: &mut f64);
+    safe fn orbit_invert_matrix_10(rows: &Matrix, inverse: &mut Matrix) -> u8;
+}
+
+/// The square root.
+pub fn sqrt(x: f64) -> f64 {
+    orbit_sqrt(x)
+}
+
+/// The double nearest a whole number.
+pub fn nearest(n: i64) -> f64 {
+    orbit_nearest(n)
+}
+
+/// The whole number toward zero.
+pub fn truncated(x: f64) -> i64 {
+    orbit_truncated(x)
+}
+
+/// Value and slope of the sum of ten Chebyshev polynomials.
+pub fn value_and_slope(polynomial: &Polynomial) -> (f64, f64) {
+    let (mut value, mut slope) = (0.0, 0.0);
+    orbit_evaluate_chebyshev(
+        &polynomial.coefficients,
+        polynomial.tau,
+        &mut value,
+        &mut slope,
+    );
+    (value, slope)
+}
+
+/// The refusal's number, 0 if there is none; then the inverse is written to the lent area.
+pub fn invert(rows: &Matrix, inverse: &mut Matrix) -> u8 {
+    orbit_invert_matrix_10(rows, inverse)
+}

@@ -1,0 +1,3 @@
+// The library as C and Rust link it (include/orbit.h). Each function is the entry of the same name, with the same promise.
+mod chebyshev_entries;
+mod float_entries;

@@ -1,0 +1,35 @@
+// The units of the ship clock, each a type of its own with one field, so that kilometres cannot stand where metres are meant;
+// and the records of three. An ECEF coordinate is earth-centred and earth-fixed.
+
+// A length in metres.
+pub struct Metres(pub f64);
+
+// A time in seconds.
+pub struct Seconds(pub f64);
+
+// A frequency in hertz.
+pub struct Hertz(pub f64);
+
+// An instant, or a time, as a count of nanoseconds; of an instant, since 1970-01-01 without leap seconds.
+pub struct Nanoseconds(pub i64);
+
+// A satellite's ECEF position, in metres.
+pub struct Position {
+    pub x: f64,
+    pub y: f64,
+    pub z: f64,
+}
+
+// A satellite's ECEF velocity, in metres for each second.
+pub struct Velocity {
+    pub x: f64,
+    pub y: f64,
+    pub z: f64,
+}
+
+// Where the receiver stands, ECEF.
+pub struct Observer {
+    pub x: Metres,
+    pub y: Metres,
+    pub z: Metres,
+}
