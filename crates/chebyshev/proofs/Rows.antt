@@ -1,20 +1,21 @@
 -- The loops over rows: what is written so far, and what the definition makes of the rest, is what it makes of the whole; and the search for a
 -- pivot, a row for each step. Assumes nothing.
-use mathlib.Core.Path.{_≡_, refl, ap, ap₂, _∙_, sym}
+use mathlib.Core.Path.{_≡_, refl, ap, ap₂, _∙_, sym, subst}
+use mathlib.Core.Logic.{_⊎_, inl, inr}
 use mathlib.Core.Bool.{Bool, true, false}
 use mathlib.Core.List.{List, [], _∷_, _++_, append-nil}
-use Prim.Native.Nat.{ℕ, zero, suc, _+_, _-_, _/_, _%_, _≤_, _<_}
-use native.Mathlib.Nat.{le-refl, le-of-suc-le-suc, lt-of-not-le}
+use Prim.Native.Nat.{ℕ, zero, suc, _+_, _-_, _*_, _/_, _%_, _≤_, _<_}
+use native.Mathlib.Nat.{le-refl, le-of-suc-le-suc, lt-of-not-le, eq-or-lt-of-le}
 use native.Mathlib.Decide.{decLt}
 use native.Mathlib.Numerals.{add-one}
 use lib.ListN.{length, getD, take, drop, set, drop-of-length-le, take-append-drop}
-use lib.Seq.{take-suc-set, drop-set-lt, drop-cons, append-snoc, take-all, set-getD, set-out}
+use lib.Seq.{take-suc-set, drop-set-lt, drop-cons, append-snoc, take-all, set-getD, set-out, getD-set-same, getD-set-other}
 use lib.Ieee.{Float, nan, binary64, div, sub, mul, lt}
 use lib.Dec.{eqb}
 use borrow.Author.Tests.{eq-eqb, ne-eqb}
 use native.Mathlib.Omega.{arith}
 use Rattle.float.specs.Magnitude.{magnitudeOf}
-use Rattle.chebyshev.specs.Inverse.{Row, Matrix, cell, choose, divided, reduced, cleared, seek}
+use Rattle.chebyshev.specs.Inverse.{Row, Matrix, cell, choose, divided, reduced, cleared, exchanged, seek, RowPut}
 
 pub divided-step : (p : Float) (l : Row) (c : ℕ) → c < length l
     → (let v = div binary64 (getD l c nan) p in take (c + 1) (set l c v) ++ divided p (drop (c + 1) (set l c v)) ≡ take c l ++ divided p (drop c l))
@@ -98,3 +99,41 @@ cleared-other i by ks l l′ r x n e f = rw (ne-eqb r i n) (f ∙ ap (λ (y : Ro
 pub cleared-same : (i : ℕ) (by ks : Row) (l l′ : Matrix) (r : ℕ) → r ≡ i → l′ ≡ l
     → l′ ≡ set l r (choose (eqb r i) (getD l r []) (reduced (getD ks r nan) (getD l r []) by))
 cleared-same i by ks l l′ r e f = rw (eq-eqb r i e) (f ∙ sym (set-getD l r []))
+
+-- rows that are the same, exchanged
+pub exchanged-same : (i j : ℕ) (m : Matrix) → i ≡ j → m ≡ exchanged i j m
+exchanged-same i j m e = subst (λ (k : ℕ). m ≡ exchanged i k m) e (sym (ap (λ (x : Matrix). set x i (getD m i [])) (set-getD m i []) ∙ set-getD m i []))
+
+-- a number written among the hundred: those before row r stay, and row r has one number more
+pub put-before : (out : Row) (r c : ℕ) (v : Float) (old : Row) → ((k : ℕ) → k < 10 * r → getD out k nan ≡ getD old k nan) → (k : ℕ) → k < 10 * r → getD (set out (10 * r + c) v) k nan ≡ getD old k nan
+put-before out r c v old h k l = getD-set-other out (10 * r + c) k v nan (λ e. apart k e l) ∙ h k l
+  where
+    apart : (k : ℕ) → k ≡ 10 * r + c → k < 10 * r → ⊥
+    apart k e l = omega arith
+
+pub put-within : (out : Row) (r c : ℕ) (row : Row) → 10 * r + c < length out → ((k : ℕ) → k < c → getD out (10 * r + k) nan ≡ getD row k nan)
+    → (k : ℕ) → k < c + 1 → getD (set out (10 * r + c) (getD row c nan)) (10 * r + k) nan ≡ getD row k nan
+put-within out r c row inside h k l = go (eq-or-lt-of-le (le-of-suc-le-suc (subst (λ (m : ℕ). k < m) (add-one c) l)))
+  where
+    v : Float
+    v = getD row c nan
+
+    go : (k ≡ c) ⊎ (k < c) → getD (set out (10 * r + c) v) (10 * r + k) nan ≡ getD row k nan
+    go (inl e) = ap (λ (m : ℕ). getD (set out (10 * r + c) v) (10 * r + m) nan) e ∙ getD-set-same out (10 * r + c) v nan inside ∙ ap (λ (m : ℕ). getD row m nan) (sym e)
+    go (inr u) = getD-set-other out (10 * r + c) (10 * r + k) v nan (λ e. apart k e u) ∙ h k u
+      where
+        apart : (k : ℕ) → 10 * r + k ≡ 10 * r + c → k < c → ⊥
+        apart k e l = omega arith
+
+-- row r put: the numbers below 10 r and those of row r are the matrix's
+pub row-more : (m : Matrix) (old new : Row) (r : ℕ) → RowPut old (getD m r []) r new → ((k : ℕ) → k < 10 * r → getD old k nan ≡ cell m (k / 10) (k % 10))
+    → (k : ℕ) → k < 10 * (r + 1) → getD new k nan ≡ cell m (k / 10) (k % 10)
+row-more m old new r p h k l = go (decLt k (10 * r))
+  where
+    go : Dec (k < 10 * r) → getD new k nan ≡ cell m (k / 10) (k % 10)
+    go (yes u) = p .before k u ∙ h k u
+    go (no u) =
+        let u2 : 10 * r ≤ k = le-of-suc-le-suc (lt-of-not-le u) in
+        let e1 : 10 * r + k % 10 ≡ k = omega arith in
+        let e2 : r ≡ k / 10 = omega arith in
+        ap (λ (n : ℕ). getD new n nan) (sym e1) ∙ p .within (k % 10) (omega arith) ∙ ap (λ (n : ℕ). cell m n (k % 10)) e2

@@ -1,11 +1,11 @@
 -- The inverse of a ten by ten matrix of doubles by Gauss-Jordan elimination, "a column's pivot" found as document 01 says. A matrix is a
 -- list of ten rows of ten doubles, and each operation on doubles rounds once.
-use Prim.Native.Nat.{ℕ, zero, suc, _+_, _-_, _*_, _/_, _%_}
+use Prim.Native.Nat.{ℕ, zero, suc, _+_, _-_, _*_, _/_, _%_, _<_}
 use mathlib.Core.Path.{_≡_}
 use mathlib.Core.Bool.{Bool, true, false, not}
 use mathlib.Core.List.{List, [], _∷_}
 use lib.Dec.{eqb}
-use lib.ListN.{getD, set, replicate}
+use lib.ListN.{length, getD, set, replicate}
 use lib.IntN.{pos}
 use lib.Ieee.{Float, nan, fin, binary64, sub, mul, div, lt, ofBits}
 use Rattle.float.specs.Magnitude.{magnitudeOf}
@@ -135,6 +135,12 @@ inverted a = columnsFrom order 0 a unitRows
 -- "in the inverse's answer it is 100 doubles, row after row": number 10 r + c is row r, column c
 abbrev pub flat : Matrix → Row
 flat m = listOf (λ k. cell m (k / order) (k % order)) (order * order) 0
+
+-- a row put at its place among the hundred, the other numbers as they were
+pub record RowPut (old : Row) (row : Row) (r : ℕ) (new : Row) : Type 0 where
+  pub long : length new ≡ length old
+  pub before : (k : ℕ) → k < order * r → getD new k nan ≡ getD old k nan
+  pub within : (c : ℕ) → c < order → getD new (order * r + c) nan ≡ getD row c nan
 
 -- the paper's number of each case, and its values: "an array ... that the language makes stand beside it is all zeros"
 abbrev pub refusalOf : Outcome → ℕ

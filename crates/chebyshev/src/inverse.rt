@@ -1,8 +1,8 @@
 // The inverse of a ten by ten matrix by Gauss-Jordan elimination with the largest pivot of each column.
 ghost use mathlib.Core.Path.{_≡_};
-ghost use mathlib.Core.Bool.{not};
 ghost use Prim.Native.Nat.{_<_};
-ghost use Rattle.chebyshev.specs.Inverse.{exchanged, divided, reduced, pivotRow, tooSmall, scaledAt, column, clearedBy, Cleared, unitRows, flat, inverted, rowsOf, refusalOf, answerOf};
+ghost use lib.ListN.{length};
+ghost use Rattle.chebyshev.specs.Inverse.{exchanged, divided, reduced, pivotRow, tooSmall, scaledAt, column, clearedBy, Cleared, RowPut, flat, inverted, rowsOf, refusalOf, answerOf};
 use float::magnitude;
 
 // Rows i and j exchanged, by value.
@@ -10,10 +10,12 @@ fn swap_rows(m: &mut [[f64; 10]; 10], i: usize, j: usize)
     requires { ⌜ (i < 10) × (j < 10) ⌝ }
     ensures { λ r. ⌜ now (m .exit) ≡ exchanged i j (now (m .entry)) ⌝ }
 {
-    let x = m[i];
-    let y = m[j];
-    m[i] = y;
-    m[j] = x;
+    if i != j {
+        let x = m[i];
+        let y = m[j];
+        m[i] = y;
+        m[j] = x;
+    }
 }
 
 // A row divided by p.
@@ -142,13 +144,24 @@ fn gauss_jordan(a: [[f64; 10]; 10], refusal: &mut u8) -> [[f64; 10]; 10]
     v
 }
 
+// A row put where row r of the hundred numbers stands.
+fn put_row(out: &mut [f64; 100], row: [f64; 10], r: usize)
+    requires { ⌜ (r < 10) × (length (now out) ≡ 100) ⌝ }
+    ensures { λ x. ⌜ RowPut (now (out .entry)) row r (now (out .exit)) ⌝ }
+{
+    for c in 0..10 {
+        out[10 * r + c] = row[c];
+    }
+}
+
 // The numbers of a matrix, row after row.
 fn flatten(m: [[f64; 10]; 10]) -> [f64; 100]
     ensures { λ r. ⌜ r ≡ flat m ⌝ }
 {
     let mut out = [0.0; 100];
-    for k in 0..100 {
-        out[k] = m[k / 10][k % 10];
+    for r in 0..10 {
+        let row = m[r];
+        put_row(&mut out, row, r);
     }
     out
 }

@@ -6,11 +6,12 @@ ghost use Rattle.float.specs.Magnitude.{magnitudeOf};
 pub fn magnitude(x: f64) -> f64
     ensures { λ r. ⌜ r ≡ magnitudeOf x ⌝ }
 {
+    let mut y = x;
     if x < 0.0 {
-        return -x;
+        y = -x;
     }
     if x == 0.0 {
-        return 0.0;
+        y = 0.0;
     }
-    x
+    y
 }

@@ -1,54 +1,49 @@
--- Below k the array holds the numbers of the matrix, number k at row k / 10 and column k % 10. Assumes nothing.
+-- Below row r the hundred numbers are the matrix's, number k at row k / 10 and column k % 10. Assumes nothing.
 use mathlib.Core.Path.{_≡_, refl, sym, ap, _∙_}
-use Prim.Native.Nat.{ℕ, _+_, _-_, _/_, _%_, _≤_, _<_}
+use mathlib.Core.List.{[]}
+use Prim.Native.Nat.{ℕ, _+_, _-_, _*_, _/_, _%_, _≤_, _<_}
 use native.Mathlib.Omega.{arith}
-use lib.ListN.{length, getD, length-set}
-use lib.Ieee.{Float, nan}
-use borrow.Author.Count.{below-none}
+use lib.ListN.{length, getD}
+use lib.Ieee.{nan}
 use Rattle.chebyshev.specs.Inverse.{cell}
-use Rattle.chebyshev.proofs.Filled.{filled, filled-more}
+use Rattle.chebyshev.proofs.Filled.{filled}
+use Rattle.chebyshev.proofs.Rows.{row-more}
 use borrow.Author.Needs.{needs}
 use Rattle.chebyshev.proofs.inverse.flatten.Statement.{statement}
 use Rattle.chebyshev.proofs.inverse.flatten.Tie as tie
 
 abbrev Inv-loop : tie.InvT-loop
-Inv-loop m out₀ k₀ out k = (k ≤ 100) × (length out ≡ 100) × ((n : ℕ) → n < k → getD out n nan ≡ cell m (n / 10) (n % 10))
+Inv-loop m out₀ r₀ out r = (r ≤ 10) × (length out ≡ 100) × ((k : ℕ) → k < 10 * r → getD out k nan ≡ cell m (k / 10) (k % 10))
 
 abbrev μ-loop : tie.MeasureT-loop
-μ-loop m out₀ k₀ out k = 100 - k
+μ-loop m out₀ r₀ out r = 10 - r
 
 loop-holds : tie.Need-loop-holds Inv-loop μ-loop
-loop-holds c = (search needs, search needs, below-none _)
+loop-holds c = (search needs, search needs, λ k h. absurd (none k h))
+  where
+    none : (k : ℕ) → k < 0 → ⊥
+    none k h = omega arith
 
-mul-out : tie.Need-mul-out Inv-loop μ-loop
-mul-out c = search needs
+mul-row : tie.Need-mul-row Inv-loop μ-loop
+mul-row c = search needs
 
-mul-out-2 : tie.Need-mul-out-2 Inv-loop μ-loop
-mul-out-2 c = search needs
+array-copy-out-row : tie.Need-array-copy-out-row Inv-loop μ-loop
+array-copy-out-row c = search needs
 
-index-1-out : tie.Need-index-1-out Inv-loop μ-loop
-index-1-out c = search needs
+put-row-requires : tie.Need-put-row-requires Inv-loop μ-loop
+put-row-requires c κs = search needs
 
-index-2-out : tie.Need-index-2-out Inv-loop μ-loop
-index-2-out c = search needs
-
-mul-out-3 : tie.Need-mul-out-3 Inv-loop μ-loop
-mul-out-3 c = search needs
-
-array-write-out : tie.Need-array-write-out Inv-loop μ-loop
-array-write-out c = search needs
-
-add-k : tie.Need-add-k Inv-loop μ-loop
-add-k c = search needs
+add-r : tie.Need-add-r Inv-loop μ-loop
+add-r c = search needs
 
 loop-less : tie.Need-loop-less Inv-loop μ-loop
 loop-less c = search needs
 
 loop-again : tie.Need-loop-again Inv-loop μ-loop
 loop-again c =
-    let at = c .before .before .loop in
-    let m = c .before .before .before .args .t1 in
-    (search needs, simp length-set (search needs), filled-more (λ n. cell m (n / 10) (n % 10)) nan (at .out) (at .k) _ (omega arith) refl (at .inv .2))
+    let at = c .before .before .before .before .loop in
+    let m = c .before .before .before .before .before .args .t1 in
+    (search needs, c .put-row .ensures .long ∙ at .inv .1, row-more m (at .out) (c .put-row .last .0) (at .r) (c .put-row .ensures) (at .inv .2))
 
 returns : tie.Need-returns Inv-loop μ-loop
 returns c =
@@ -63,13 +58,10 @@ flatten-spec =
     Inv-loop
     μ-loop
     loop-holds
-    mul-out
-    mul-out-2
-    index-1-out
-    index-2-out
-    mul-out-3
-    array-write-out
-    add-k
+    mul-row
+    array-copy-out-row
+    put-row-requires
+    add-r
     loop-less
     loop-again
     returns)
