@@ -1,5 +1,4 @@
--- A float without its sign, from the tests that the code makes.
--- Assumes nothing.
+-- A double without its sign, from the tests that the code makes. Assumes nothing.
 use mathlib.Core.Path.{_≡_, refl, ap, _∙_, sym}
 use mathlib.Core.Bool.{Bool, true, false, _&&_, _||_, Bool·beq}
 use Prim.Native.Nat.{ℕ, zero, suc, _+_, _*_, _^_, _≤_, _<_}

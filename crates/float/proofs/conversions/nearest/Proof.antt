@@ -1,3 +1,4 @@
+-- By the sign: the magnitude is rounded, and a negative number's double is that of its magnitude, negated. Assumes nothing.
 use borrow.Author.Needs.{needs}
 use mathlib.Core.Path.{_≡_, sym, ap, _∙_}
 use mathlib.Core.Bool.{true, false}

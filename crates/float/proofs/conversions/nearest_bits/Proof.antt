@@ -1,3 +1,4 @@
+-- Shifted up to 64 digits, n keeps 53 and drops 11, and what is added is one exactly where rounding to nearest, ties to even, goes up. Assumes nothing.
 use borrow.Author.Needs.{needs}
 use mathlib.Core.Path.{_≡_, sym, ap, _∙_}
 use Prim.Native.Nat.{ℕ, _+_, _-_, _*_, _/_, _%_, _^_}

@@ -1,3 +1,4 @@
+-- The fields are the double's own, so the whole part is that of its magnitude; the sign and the ends of the range give the rest. Assumes nothing.
 use borrow.Author.Needs.{needs}
 use mathlib.Core.Path.{_≡_, sym, ap, _∙_, subst}
 use Prim.Native.Nat.{ℕ, _-_, _<_, min}

@@ -1,3 +1,4 @@
+-- By the exponent: below one there is no whole part, from 2 ^ 63 on the end of the range, and between the digits are shifted to their place. Assumes nothing.
 use borrow.Author.Needs.{needs}
 use mathlib.Core.Path.{_≡_, sym, ap, _∙_}
 use Prim.Native.Nat.{ℕ, _+_, _-_, _*_, _%_, _^_}

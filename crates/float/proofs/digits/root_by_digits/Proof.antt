@@ -1,4 +1,4 @@
--- `root::root_of` meets its contract. Both loops keep root * root + rest equal to the part of m * 2 ^ 54 that is taken up: the leading
+-- Both loops keep root * root + rest equal to the part of m * 2 ^ 54 that is taken up: the leading
 -- 2 * i digits of m in the first, m * 4 ^ (i - 27) in the second. Assumes nothing.
 use borrow.Author.Needs.{needs}
 use mathlib.Core.Path.{_≡_, refl, sym, ap, _∙_, subst}

@@ -1,3 +1,4 @@
+-- Only safety: the patterns made are no NaNs, and nothing overflows. Nothing is promised of the number. Assumes nothing.
 use borrow.Author.Needs.{needs}
 use mathlib.Core.Path.{_≡_}
 use Prim.Native.Nat.{ℕ, _+_, _-_, _*_, _/_, _^_, _≤_, _<_}

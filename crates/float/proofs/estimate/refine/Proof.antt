@@ -1,3 +1,4 @@
+-- p * p + r is the radicand throughout: the estimate is raised while the rest is too large for a whole root, and then it is the whole root. Assumes nothing.
 use borrow.Author.Needs.{needs}
 use mathlib.Core.Path.{_≡_, _∙_}
 use Prim.Native.Nat.{ℕ, _+_, _-_, _*_, _/_, _≤_, _<_}

@@ -1,3 +1,4 @@
+-- A normal double has its leading digit added; a subnormal one is shifted up by its leading zeros. Either way digits times 2 ^ place is the value. Assumes nothing.
 use borrow.Author.Needs.{needs}
 use mathlib.Core.Path.{_≡_, sym, ap, _∙_, subst}
 use Prim.Native.Nat.{ℕ, _+_, _-_, _*_, _/_, _%_, _^_, _≤_, _<_}

@@ -1,3 +1,4 @@
+-- The whole root of the digits, one digit more than is kept, is rounded half up: no tie occurs, so that is the nearest. Assumes nothing.
 use borrow.Author.Needs.{needs}
 use mathlib.Core.Path.{_≡_, sym, ap, _∙_, subst}
 use Prim.Native.Nat.{ℕ, zero, suc, _+_, _-_, _*_, _/_, _%_, _^_, _≤_, _<_}

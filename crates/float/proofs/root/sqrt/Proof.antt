@@ -1,3 +1,4 @@
+-- By the bit pattern: NaN, the zeros and infinity give themselves, positive doubles their root by digits, and what is left NaN. Assumes nothing.
 use borrow.Author.Needs.{needs}
 use mathlib.Core.Path.{_≡_, sym, ap, _∙_, subst}
 use native.Mathlib.Omega.{arith}

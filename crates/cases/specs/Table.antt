@@ -1,0 +1,69 @@
+-- The lines of document 01's case table that are marked P: each with what the definitions give and what the paper says. One theorem, by
+-- computation, says that all of them agree.
+use Prim.Native.Nat.{ℕ}
+use mathlib.Core.Path.{_≡_, refl}
+use mathlib.Core.Bool.{true, false}
+use mathlib.Core.List.{List, [], _∷_, _++_, map}
+use lib.IntN.{ℤ, pos, negsuc}
+use lib.ListN.{replicate}
+use lib.Ieee.{Float, fin, binary64, round, add, sub, mul}
+use Rattle.float.specs.Root.{root, rootOf, wholeRoot, rootIn}
+use Rattle.chebyshev.specs.Lists.{listOf}
+use Rattle.chebyshev.specs.Recurrence.{rounded, valueOf, slopeOf, weightedFrom, T, T′}
+
+-- what a line compares
+pub data Value : Type 0 where
+  double : Float → Value
+
+-- a line: what the definition gives, and what the paper says
+pub record Case : Type 0 where
+  pub given : Value
+  pub paper : Value
+
+abbrev case : Value → Value → Case
+case g p = record { given = g; paper = p }
+
+-- m * 2 ^ e, and its negative
+abbrev plus : ℕ → ℤ → Float
+plus m e = fin false m e
+
+abbrev minus : ℕ → ℤ → Float
+minus m e = fin true m e
+
+-- 0.5, 1 and 2.25
+abbrev half : Float
+half = plus 1 (negsuc 0)
+
+abbrev one : Float
+one = plus 1 (pos 0)
+
+-- ten coefficients, all 0 but a 1 at place j
+abbrev single : ℕ → ℕ → List Float
+single j after = replicate j (plus 0 (pos 0)) ++ one ∷ replicate after (plus 0 (pos 0))
+
+-- "Root P: 2.25 → 1.5; 2^-1074 → 2^-537; −0 → −0"
+abbrev rootLines : List Case
+rootLines =
+    case (double (root binary64 (plus 9 (negsuc 1)))) (double (plus 3 (negsuc 0)))
+    ∷ case (double (root binary64 (plus 1 (negsuc 1073)))) (double (plus 1 (negsuc 536)))
+    ∷ case (double (root binary64 (minus 0 (pos 0)))) (double (minus 0 (pos 0)))
+    ∷ []
+
+-- "Chebyshev, single coefficient 1 P: T2 at 0.5 → −0.5, slope 2; T3 at 0.5 → −1, slope 0; T9 at 1 → 1, slope 81"
+abbrev chebyshevLines : List Case
+chebyshevLines =
+    case (double (valueOf rounded (single 2 7) half)) (double (minus 1 (negsuc 0)))
+    ∷ case (double (slopeOf rounded (single 2 7) half)) (double (plus 1 (pos 1)))
+    ∷ case (double (valueOf rounded (single 3 6) half)) (double (minus 1 (pos 0)))
+    ∷ case (double (slopeOf rounded (single 3 6) half)) (double (plus 0 (pos 0)))
+    ∷ case (double (valueOf rounded (single 9 0) one)) (double one)
+    ∷ case (double (slopeOf rounded (single 9 0) one)) (double (plus 81 (pos 0)))
+    ∷ []
+
+abbrev pub table : List Case
+table = rootLines ++ chebyshevLines
+
+-- the definitions meet every line
+pub table-holds : map (λ (c : Case). c .given) table ≡ map (λ (c : Case). c .paper) table
+unfolding root rootOf wholeRoot rootIn round add sub mul listOf weightedFrom T T′
+table-holds = refl
