@@ -1,0 +1,5 @@
+-- What the proofs of replay share.
+mod Glyphs
+mod Doubles
+mod Signs
+mod Filled
