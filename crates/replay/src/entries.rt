@@ -12,7 +12,7 @@ use crate::printer::print_signed;
 use crate::printer::print_text;
 
 // `sqrt X`: the root.
-pub fn sqrt(words: &[u64], out: &mut [u8]) -> usize {
+pub(crate) fn sqrt(words: &[u64], out: &mut [u8]) -> usize {
     if words.len() != 1 {
         return bad_case(out);
     }
@@ -23,7 +23,7 @@ pub fn sqrt(words: &[u64], out: &mut [u8]) -> usize {
 }
 
 // `nearest N`: the double nearest a signed number.
-pub fn nearest(words: &[u64], out: &mut [u8]) -> usize {
+pub(crate) fn nearest(words: &[u64], out: &mut [u8]) -> usize {
     if words.len() != 1 {
         return bad_case(out);
     }
@@ -34,7 +34,7 @@ pub fn nearest(words: &[u64], out: &mut [u8]) -> usize {
 }
 
 // `truncated X`: the whole part, as a signed number.
-pub fn truncated(words: &[u64], out: &mut [u8]) -> usize {
+pub(crate) fn truncated(words: &[u64], out: &mut [u8]) -> usize {
     if words.len() != 1 {
         return bad_case(out);
     }
@@ -45,7 +45,7 @@ pub fn truncated(words: &[u64], out: &mut [u8]) -> usize {
 }
 
 // `evaluate_chebyshev C0..C9 TAU`: the value and the slope.
-pub fn evaluate_chebyshev(words: &[u64], out: &mut [u8]) -> usize {
+pub(crate) fn evaluate_chebyshev(words: &[u64], out: &mut [u8]) -> usize {
     if words.len() != 11 {
         return bad_case(out);
     }
@@ -57,7 +57,7 @@ pub fn evaluate_chebyshev(words: &[u64], out: &mut [u8]) -> usize {
 }
 
 // `invert_matrix_10 A00..A99`: the refusal alone, or 0 and the hundred numbers of the inverse.
-pub fn invert_matrix_10(words: &[u64], out: &mut [u8]) -> usize {
+pub(crate) fn invert_matrix_10(words: &[u64], out: &mut [u8]) -> usize {
     if words.len() != 100 {
         return bad_case(out);
     }

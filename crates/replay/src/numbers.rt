@@ -9,7 +9,7 @@ ghost use mir.Val.{toZ, ofZ};
 ghost use Rattle.io.specs.Digits.{glyph};
 
 // The value of a lower-case hexadecimal digit, and 16 for any other byte.
-pub fn digit_of(byte: u8) -> u64
+pub(crate) fn digit_of(byte: u8) -> u64
     ensures { λ r. ⌜ (r < 16 → glyph r ≡ byte) × ((d : ℕ) → d < 16 → glyph d ≡ byte → r ≡ d) ⌝ }
 {
     if byte < b'0' {
@@ -28,7 +28,7 @@ pub fn digit_of(byte: u8) -> u64
 }
 
 // The double of these bits; every pattern of a NaN gives the one NaN.
-pub fn double(bits: u64) -> f64
+pub(crate) fn double(bits: u64) -> f64
     ensures { λ r. ⌜ r ≡ ofBits binary64 bits ⌝ }
 {
     if bits % 0x8000_0000_0000_0000 > 0x7ff0_0000_0000_0000 {
@@ -38,7 +38,7 @@ pub fn double(bits: u64) -> f64
 }
 
 // The signed number of which the word is the two's complement.
-pub fn signed(word: u64) -> i64
+pub(crate) fn signed(word: u64) -> i64
     ensures { λ r. ⌜ r ≡ toZ w64 word ⌝ }
 {
     if word < 0x8000_0000_0000_0000 {
@@ -48,7 +48,7 @@ pub fn signed(word: u64) -> i64
 }
 
 // The two's complement of a signed number.
-pub fn unsigned(n: i64) -> u64
+pub(crate) fn unsigned(n: i64) -> u64
     ensures { λ r. ⌜ r ≡ ofZ w64 n ⌝ }
 {
     if n >= 0 {
@@ -58,7 +58,7 @@ pub fn unsigned(n: i64) -> u64
 }
 
 // Ten doubles, from the word at `from` on.
-pub fn ten_doubles(words: &[u64], from: usize) -> [f64; 10]
+pub(crate) fn ten_doubles(words: &[u64], from: usize) -> [f64; 10]
     requires { ⌜ from + 10 ≤ length (now words) ⌝ }
     ensures { λ r. ⌜ ((k : ℕ) → k < 10 → getD r k nan ≡ ofBits binary64 (getD (now (words .entry)) (from + k) 0)) ⌝ }
 {
@@ -70,7 +70,7 @@ pub fn ten_doubles(words: &[u64], from: usize) -> [f64; 10]
 }
 
 // A ten by ten matrix, row after row.
-pub fn ten_rows(words: &[u64]) -> [[f64; 10]; 10]
+pub(crate) fn ten_rows(words: &[u64]) -> [[f64; 10]; 10]
     requires { ⌜ 100 ≤ length (now words) ⌝ }
     ensures { λ r. ⌜ ((i : ℕ) → i < 10 → (k : ℕ) → k < 10 → getD (getD r i []) k nan ≡ ofBits binary64 (getD (now (words .entry)) (10 * i + k) 0)) ⌝ }
 {

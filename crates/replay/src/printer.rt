@@ -2,7 +2,7 @@
 use crate::numbers::unsigned;
 
 // Writes the bytes that wait to standard output; where that fails, it is said on standard error.
-pub fn write_out(out: &[u8], waiting: usize) {
+pub(crate) fn write_out(out: &[u8], waiting: usize) {
     if waiting <= out.len() {
         if !io::write_all(libc::STDOUT_FILENO, &out[..waiting]) {
             io::write_all(libc::STDERR_FILENO, b"replay: cannot write an answer\n");
@@ -11,7 +11,7 @@ pub fn write_out(out: &[u8], waiting: usize) {
 }
 
 // Puts one byte after those that wait; where there is no room, they are written out first.
-pub fn print_byte(out: &mut [u8], waiting: usize, byte: u8) -> usize {
+pub(crate) fn print_byte(out: &mut [u8], waiting: usize, byte: u8) -> usize {
     let mut at = waiting;
     if at >= out.len() {
         write_out(out, at);
@@ -25,7 +25,7 @@ pub fn print_byte(out: &mut [u8], waiting: usize, byte: u8) -> usize {
 }
 
 // Puts bytes after those that wait.
-pub fn print_text(out: &mut [u8], waiting: usize, text: &[u8]) -> usize {
+pub(crate) fn print_text(out: &mut [u8], waiting: usize, text: &[u8]) -> usize {
     let mut at = waiting;
     let mut i = 0;
     while i < text.len() {
@@ -36,7 +36,7 @@ pub fn print_text(out: &mut [u8], waiting: usize, text: &[u8]) -> usize {
 }
 
 // Puts a blank and the 16 digits of a word.
-pub fn print_word(out: &mut [u8], waiting: usize, word: u64) -> usize {
+pub(crate) fn print_word(out: &mut [u8], waiting: usize, word: u64) -> usize {
     let mut digits = [0u8; 16];
     let count = io::hex(word, 16, &mut digits);
     let at = print_byte(out, waiting, b' ');
@@ -44,7 +44,7 @@ pub fn print_word(out: &mut [u8], waiting: usize, word: u64) -> usize {
 }
 
 // Puts a blank and a whole number in decimal.
-pub fn print_decimal(out: &mut [u8], waiting: usize, n: u64) -> usize {
+pub(crate) fn print_decimal(out: &mut [u8], waiting: usize, n: u64) -> usize {
     let mut digits = [0u8; 20];
     let count = io::decimal(n, &mut digits);
     let at = print_byte(out, waiting, b' ');
@@ -52,12 +52,12 @@ pub fn print_decimal(out: &mut [u8], waiting: usize, n: u64) -> usize {
 }
 
 // Puts a signed number's two's complement as a word.
-pub fn print_signed(out: &mut [u8], waiting: usize, n: i64) -> usize {
+pub(crate) fn print_signed(out: &mut [u8], waiting: usize, n: i64) -> usize {
     print_word(out, waiting, unsigned(n))
 }
 
 // Puts a double's bits as a word, and a NaN as a blank and `nan`.
-pub fn print_double(out: &mut [u8], waiting: usize, x: f64) -> usize {
+pub(crate) fn print_double(out: &mut [u8], waiting: usize, x: f64) -> usize {
     if x != x {
         return print_text(out, waiting, b" nan");
     }
@@ -65,7 +65,7 @@ pub fn print_double(out: &mut [u8], waiting: usize, x: f64) -> usize {
 }
 
 // Puts one double after the other.
-pub fn print_doubles(out: &mut [u8], waiting: usize, numbers: &[f64]) -> usize {
+pub(crate) fn print_doubles(out: &mut [u8], waiting: usize, numbers: &[f64]) -> usize {
     let mut at = waiting;
     let mut i = 0;
     while i < numbers.len() {
@@ -76,11 +76,11 @@ pub fn print_doubles(out: &mut [u8], waiting: usize, numbers: &[f64]) -> usize {
 }
 
 // Ends the line.
-pub fn print_end(out: &mut [u8], waiting: usize) -> usize {
+pub(crate) fn print_end(out: &mut [u8], waiting: usize) -> usize {
     print_byte(out, waiting, b'\n')
 }
 
 // The whole answer to a line that is no case.
-pub fn bad_case(out: &mut [u8]) -> usize {
+pub(crate) fn bad_case(out: &mut [u8]) -> usize {
     print_text(out, 0, b"bad case\n")
 }

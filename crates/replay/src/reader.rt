@@ -6,7 +6,7 @@ use crate::numbers::digit_of;
 
 // What is read of a line so far: how many letters of its name, how many whole words, how many digits of the word begun and their value.
 // The letters and the words lie in arrays that the caller lends.
-pub struct Line {
+pub(crate) struct Line {
     pub letters: usize,
     pub count: usize,
     pub digits: u8,
@@ -16,7 +16,7 @@ pub struct Line {
 }
 
 // A line of which nothing is read.
-pub fn fresh() -> Line
+pub(crate) fn fresh() -> Line
     ensures { λ r. ⌜ (r .letters ≡ 0) × (r .count ≡ 0) ⌝ }
 {
     Line {
@@ -39,7 +39,7 @@ fn spoiled(line: Line) -> Line
 }
 
 // Whether any byte of the line is read.
-pub fn is_begun(line: Line) -> bool {
+pub(crate) fn is_begun(line: Line) -> bool {
     if line.is_good {
         if line.in_name {
             return line.letters > 0;
@@ -49,7 +49,7 @@ pub fn is_begun(line: Line) -> bool {
 }
 
 // One more letter of the name; a name that is longer than its room is no entry's.
-pub fn name_byte(line: Line, byte: u8, name: &mut [u8]) -> Line
+pub(crate) fn name_byte(line: Line, byte: u8, name: &mut [u8]) -> Line
     requires { ⌜ line .letters ≤ length (now name) ⌝ }
     ensures { λ r. ⌜ (r .letters ≤ length (now (name .entry))) × (r .count ≡ line .count) ⌝ }
 {
@@ -64,7 +64,7 @@ pub fn name_byte(line: Line, byte: u8, name: &mut [u8]) -> Line
 }
 
 // One more digit of a word, which has 16.
-pub fn digit(line: Line, byte: u8) -> Line
+pub(crate) fn digit(line: Line, byte: u8) -> Line
     ensures { λ r. ⌜ (r .letters ≡ line .letters) × (r .count ≡ line .count) ⌝ }
 {
     let value = digit_of(byte);
@@ -81,7 +81,7 @@ pub fn digit(line: Line, byte: u8) -> Line
 }
 
 // The end of the name or of a word, which goes into its place; a word that has too few digits, or no room, is no word.
-pub fn word_end(line: Line, words: &mut [u64]) -> Line
+pub(crate) fn word_end(line: Line, words: &mut [u64]) -> Line
     requires { ⌜ line .count ≤ length (now words) ⌝ }
     ensures { λ r. ⌜ (r .letters ≡ line .letters) × (r .count ≤ length (now (words .entry))) ⌝ }
 {
