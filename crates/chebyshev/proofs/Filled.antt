@@ -2,7 +2,7 @@
 use mathlib.Core.Path.{_≡_, refl, sym, ap, _∙_, subst}
 use mathlib.Core.List.{List, [], _∷_}
 use mathlib.Core.Logic.{_⊎_, inl, inr}
-use Prim.Native.Nat.{ℕ, zero, suc, _+_, _<_}
+use Prim.Native.Nat.{ℕ, zero, suc, _+_, _≤_, _<_}
 use native.Mathlib.Nat.{add-zero, lt-irrefl, eq-or-lt-of-le, le-of-suc-le-suc}
 use native.Mathlib.Numerals.{add-one}
 use native.Mathlib.Omega.{arith}
@@ -40,3 +40,10 @@ filled-more f d l j v inside e h k u = go (eq-or-lt-of-le (le-of-suc-le-suc (sub
     go : (k ≡ j) ⊎ (k < j) → getD (set l j v) k d ≡ f k
     go (inl i) = ap (λ (m : ℕ). getD (set l j v) m d) i ∙ getD-set-same l j v d inside ∙ e ∙ ap f (sym i)
     go (inr i) = getD-set-other l j k v d (λ e2. lt-irrefl k (subst (λ (m : ℕ). k < m) (sym e2) i)) ∙ h k i
+
+-- what lies after it stays as it was
+pub rest-kept : {A : Type 0} (d : A) (l old : List A) (j : ℕ) (v : A) → ((k : ℕ) → j ≤ k → getD l k d ≡ getD old k d) → (k : ℕ) → j + 1 ≤ k → getD (set l j v) k d ≡ getD old k d
+rest-kept d l old j v h k u = getD-set-other l j k v d (λ e. apart k e u) ∙ h k (omega arith)
+  where
+    apart : (k : ℕ) → k ≡ j → j + 1 ≤ k → ⊥
+    apart k e u = omega arith

@@ -3,3 +3,4 @@ pub mod Lists
 pub mod Recurrence
 pub mod Inverse
 pub mod Ideal
+pub mod Coefficients

@@ -129,7 +129,7 @@ const IDENTITY: [[f64; 10]; 10] = [
 ];
 
 // The rows of the inverse of a, and 0 in `refusal`; or 8 there, and rows of zeros.
-fn gauss_jordan(a: [[f64; 10]; 10], refusal: &mut u8) -> [[f64; 10]; 10]
+pub fn gauss_jordan(a: [[f64; 10]; 10], refusal: &mut u8) -> [[f64; 10]; 10]
     ensures { λ r. ⌜ (r ≡ rowsOf (inverted a)) × (now (refusal .exit) ≡ refusalOf (inverted a)) ⌝ }
 {
     let mut t = a;

@@ -1,10 +1,14 @@
 // Chebyshev sums of ten terms, and the inversion of the ten by ten matrix that their coefficients come from.
+mod coefficients;
 mod ideal;
 mod inverse;
 mod recurrence;
 
+pub use coefficients::coefficients_by;
+pub use coefficients::ideal_coefficients;
 pub use ideal::ideal_columns;
 pub use inverse::Inverse;
+pub use inverse::gauss_jordan;
 pub use inverse::invert_matrix_10;
 pub use recurrence::Evaluation;
 pub use recurrence::evaluate_chebyshev;

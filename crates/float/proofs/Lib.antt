@@ -10,3 +10,4 @@ pub mod NearestRoot
 pub mod Magnitudes
 pub mod Bounds
 pub mod Comparison
+pub mod SignedBounds

@@ -1,0 +1,222 @@
+-- What holds of an entry's inputs where none of its checks fails: each check is read off as false, and says of every element what it says of the list.
+-- And the other way: samples that are few, near and of one length pass their checks. Assumes nothing.
+use mathlib.Core.Path.{_≡_, refl, sym, subst}
+use mathlib.Core.Bool.{false, not, _||_}
+use mathlib.Core.List.{List, [], _∷_}
+use Prim.Native.Nat.{ℕ, zero, suc, _+_, _*_, _≤_, _<_}
+use native.Mathlib.Numerals.{add-one}
+use native.Mathlib.Omega.{arith}
+use borrow.Author.Tests.{ltb-false, eqb-true, eqb-false, not-false, le-ltb, ne-eqb, eq-eqb}
+use lib.Dec.{T, ltb, eqb}
+use lib.IntN.{ℤ, pos, natAbs}
+use lib.Signed.{ltZ, _<ℤ_}
+use lib.Ieee.{Float}
+use lib.ListN.{length, getD}
+use Rattle.checks.specs.Checks.{any, miscounted, unsampled, tooShort, beyond, unrising}
+use Rattle.checks.specs.Entries.{firstFailing, evaluationChecks, propagationChecks, closestChecks, meansChecks, samplesChecks, fitChecks, passChecks}
+use Rattle.checks.proofs.First.{passed, neither}
+
+-- the coordinates: how many, in which order and how far from 1970
+pub record Table (ts : List ℤ) (ps : List Float) : Type 0 where
+  pub enough : 10 ≤ length ts
+  pub few : length ts ≤ 4096
+  pub three : length ps ≡ 3 * length ts
+  pub rising : (k : ℕ) → k + 1 < length ts → getD ts k (pos 0) <ℤ getD ts (k + 1) (pos 0)
+  pub near : (k : ℕ) → natAbs (getD ts k (pos 0)) ≤ 4000000000000000000
+  pub risen : unrising ts ≡ false
+
+-- the samples
+pub record Samples (ss : List ℤ) (fs : List Float) : Type 0 where
+  pub some : 0 < length ss
+  pub few : length ss ≤ 4096
+  pub same : length fs ≡ length ss
+  pub near : (k : ℕ) → natAbs (getD ss k (pos 0)) ≤ 4000000000000000000
+
+-- check 4, of one instant and of each of a list
+near-one : (t : ℤ) → beyond t ≡ false → natAbs t ≤ 4000000000000000000
+near-one t h = ltb-false 4000000000000000000 (natAbs t) h
+
+near-each : (l : List ℤ) → any beyond l ≡ false → (k : ℕ) → natAbs (getD l k (pos 0)) ≤ 4000000000000000000
+unfolding any
+near-each [] h k = omega arith
+near-each (t ∷ l) h zero = near-one t (neither (beyond t) (any beyond l) h .0)
+near-each (t ∷ l) h (suc k) = near-each l (neither (beyond t) (any beyond l) h .1) k
+
+pub none-beyond : (l : List ℤ) → ((k : ℕ) → k < length l → natAbs (getD l k (pos 0)) ≤ 4000000000000000000) → any beyond l ≡ false
+unfolding any
+none-beyond [] h = refl
+none-beyond (t ∷ l) h = rw (le-ltb 4000000000000000000 (natAbs t) (h 0 (omega arith))) (none-beyond l (λ k s. h (suc k) (omega arith)))
+
+-- check 5
+rising-each : (l : List ℤ) → unrising l ≡ false → (k : ℕ) → suc k < length l → getD l k (pos 0) <ℤ getD l (suc k) (pos 0)
+unfolding unrising
+rising-each [] h k s = absurd (omega arith)
+rising-each (a ∷ []) h k s = absurd (omega arith)
+rising-each (a ∷ b ∷ r) h zero s = record { lt = subst T (sym (not-false (ltZ a b) (neither (not (ltZ a b)) (unrising (b ∷ r)) h .0))) tt }
+rising-each (a ∷ b ∷ r) h (suc k) s = rising-each (b ∷ r) (neither (not (ltZ a b)) (unrising (b ∷ r)) h .1) k (omega arith)
+
+-- checks 1, 4, 5
+table : (ts : List ℤ) (ps : List Float) → miscounted ts ps ≡ false → any beyond ts ≡ false → unrising ts ≡ false → Table ts ps
+table ts ps h1 h4 h5 =
+    let n = length ts in
+    let both = neither (ltb n 10 || ltb 4096 n) (not (eqb (length ps) (3 * n))) h1 in
+    let ends = neither (ltb n 10) (ltb 4096 n) (both .0) in
+    record {
+      enough = ltb-false n 10 (ends .0);
+      few = ltb-false 4096 n (ends .1);
+      three = eqb-true (length ps) (3 * n) (not-false (eqb (length ps) (3 * n)) (both .1));
+      rising = λ k s. rw add-one (rising-each ts h5 k (omega arith));
+      near = near-each ts h4;
+      risen = h5;
+    }
+
+-- checks 2, 4
+samples : (ss : List ℤ) (fs : List Float) → unsampled ss fs ≡ false → any beyond ss ≡ false → Samples ss fs
+samples ss fs h2 h4 =
+    let n = length ss in
+    let both = neither (eqb n 0 || ltb 4096 n) (not (eqb (length fs) n)) h2 in
+    let ends = neither (eqb n 0) (ltb 4096 n) (both .0) in
+    let some = eqb-false n 0 (ends .0) in
+    record {
+      some = omega (arith, some);
+      few = ltb-false 4096 n (ends .1);
+      same = eqb-true (length fs) n (not-false (eqb (length fs) n) (both .1));
+      near = near-each ss h4;
+    }
+
+-- check 3
+areas : (ss ia : List ℤ) (fa : List Float) → tooShort ss ia fa ≡ false → (length ss ≤ length ia) × (length ss ≤ length fa)
+areas ss ia fa h =
+    let both = neither (ltb (length ia) (length ss)) (ltb (length fa) (length ss)) h in
+    (ltb-false (length ia) (length ss) (both .0), ltb-false (length fa) (length ss) (both .1))
+
+-- the entries
+
+pub evaluation-near : (t : ℤ) → firstFailing (evaluationChecks t) ≡ 0 → natAbs t ≤ 4000000000000000000
+evaluation-near t h = near-one t (passed 3 _ _ h .0)
+
+module _ (ts : List ℤ) (ps : List Float) (t : ℤ) (h : firstFailing (propagationChecks ts ps t) ≡ 0) where
+  pub propagation-table : Table ts ps
+  propagation-table =
+      let h1 = passed 0 _ _ h in
+      let h4 = passed 3 _ _ (h1 .1) in
+      let h5 = passed 4 _ _ (h4 .1) in
+      table ts ps (h1 .0) (neither (any beyond ts) (beyond t) (h4 .0) .0) (h5 .0)
+
+  pub propagation-near : natAbs t ≤ 4000000000000000000
+  propagation-near =
+      let h1 = passed 0 _ _ h in
+      let h4 = passed 3 _ _ (h1 .1) in
+      near-one t (neither (any beyond ts) (beyond t) (h4 .0) .1)
+
+module _ (ts : List ℤ) (ps : List Float) (ox oy oz : Float) (t : ℤ) (h : firstFailing (closestChecks ts ps ox oy oz t) ≡ 0) where
+  pub closest-table : Table ts ps
+  closest-table =
+      let h1 = passed 0 _ _ h in
+      let h4 = passed 3 _ _ (h1 .1) in
+      let h5 = passed 4 _ _ (h4 .1) in
+      table ts ps (h1 .0) (neither (any beyond ts) (beyond t) (h4 .0) .0) (h5 .0)
+
+  pub closest-near : natAbs t ≤ 4000000000000000000
+  closest-near =
+      let h1 = passed 0 _ _ h in
+      let h4 = passed 3 _ _ (h1 .1) in
+      near-one t (neither (any beyond ts) (beyond t) (h4 .0) .1)
+
+module _ (ss : List ℤ) (fs : List Float) (h : firstFailing (samplesChecks ss fs) ≡ 0) where
+  pub samples-samples : Samples ss fs
+  samples-samples =
+      let h2 = passed 1 _ _ h in
+      let h4 = passed 3 _ _ (h2 .1) in
+      samples ss fs (h2 .0) (h4 .0)
+
+module _ (ss : List ℤ) (fs : List Float) (ia : List ℤ) (fa : List Float) (h : firstFailing (meansChecks ss fs ia fa) ≡ 0) where
+  pub means-samples : Samples ss fs
+  means-samples =
+      let h2 = passed 1 _ _ h in
+      let h3 = passed 2 _ _ (h2 .1) in
+      let h4 = passed 3 _ _ (h3 .1) in
+      samples ss fs (h2 .0) (h4 .0)
+
+  pub means-areas : (length ss ≤ length ia) × (length ss ≤ length fa)
+  means-areas =
+      let h2 = passed 1 _ _ h in
+      let h3 = passed 2 _ _ (h2 .1) in
+      areas ss ia fa (h3 .0)
+
+module _ (ts : List ℤ) (ps : List Float) (ss : List ℤ) (fs : List Float) (ox oy oz f0 : Float) (t : ℤ) (h : firstFailing (fitChecks ts ps ss fs ox oy oz f0 t) ≡ 0) where
+  fit-four : (any beyond ts ≡ false) × (any beyond ss ≡ false) × (beyond t ≡ false)
+  fit-four =
+      let h1 = passed 0 _ _ h in
+      let h2 = passed 1 _ _ (h1 .1) in
+      let h4 = passed 3 _ _ (h2 .1) in
+      let both = neither (any beyond ts || any beyond ss) (beyond t) (h4 .0) in
+      let lists = neither (any beyond ts) (any beyond ss) (both .0) in
+      (lists .0, lists .1, both .1)
+
+  pub fit-table : Table ts ps
+  fit-table =
+      let h1 = passed 0 _ _ h in
+      let h2 = passed 1 _ _ (h1 .1) in
+      let h4 = passed 3 _ _ (h2 .1) in
+      let h5 = passed 4 _ _ (h4 .1) in
+      table ts ps (h1 .0) (fit-four .0) (h5 .0)
+
+  pub fit-samples : Samples ss fs
+  fit-samples =
+      let h1 = passed 0 _ _ h in
+      let h2 = passed 1 _ _ (h1 .1) in
+      samples ss fs (h2 .0) (fit-four .1)
+
+  pub fit-near : natAbs t ≤ 4000000000000000000
+  fit-near = near-one t (fit-four .2)
+
+module _ (ts : List ℤ) (ps : List Float) (ss : List ℤ) (fs : List Float) (ox oy oz f0 : Float) (ia : List ℤ) (fa : List Float) (h : firstFailing (passChecks ts ps ss fs ox oy oz f0 ia fa) ≡ 0) where
+  pub pass-table : Table ts ps
+  pass-table =
+      let h1 = passed 0 _ _ h in
+      let h2 = passed 1 _ _ (h1 .1) in
+      let h3 = passed 2 _ _ (h2 .1) in
+      let h4 = passed 3 _ _ (h3 .1) in
+      let h5 = passed 4 _ _ (h4 .1) in
+      table ts ps (h1 .0) (neither (any beyond ts) (any beyond ss) (h4 .0) .0) (h5 .0)
+
+  pub pass-samples : Samples ss fs
+  pass-samples =
+      let h1 = passed 0 _ _ h in
+      let h2 = passed 1 _ _ (h1 .1) in
+      let h3 = passed 2 _ _ (h2 .1) in
+      let h4 = passed 3 _ _ (h3 .1) in
+      samples ss fs (h2 .0) (neither (any beyond ts) (any beyond ss) (h4 .0) .1)
+
+  pub pass-areas : (length ss ≤ length ia) × (length ss ≤ length fa)
+  pass-areas =
+      let h1 = passed 0 _ _ h in
+      let h2 = passed 1 _ _ (h1 .1) in
+      let h3 = passed 2 _ _ (h2 .1) in
+      areas ss ia fa (h3 .0)
+
+-- the other way
+
+module _ (ss : List ℤ) (fs : List Float) (s : Samples ss fs) where
+  sampled : unsampled ss fs ≡ false
+  sampled =
+      rw (
+        ne-eqb (length ss) 0 (λ e. omega arith),
+        le-ltb 4096 (length ss) (s .few),
+        eq-eqb (length fs) (length ss) (s .same),
+      )
+
+  pub samples-pass : firstFailing (samplesChecks ss fs) ≡ 0
+  unfolding firstFailing
+  samples-pass = rw (sampled, none-beyond ss (λ k b. s .near k))
+
+  pub means-pass : (ia : List ℤ) (fa : List Float) → length ss ≤ length ia → length ss ≤ length fa → firstFailing (meansChecks ss fs ia fa) ≡ 0
+  unfolding firstFailing
+  means-pass ia fa h k =
+      rw (
+        sampled,
+        le-ltb (length ia) (length ss) h,
+        le-ltb (length fa) (length ss) k,
+        none-beyond ss (λ k b. s .near k),
+      )

@@ -1,0 +1,66 @@
+-- Checks 1 to 7 of document 01: each says when it fails.
+use Prim.Native.Nat.{ℕ, _*_}
+use mathlib.Core.Bool.{Bool, true, false, not, _&&_, _||_}
+use mathlib.Core.List.{List, [], _∷_}
+use lib.Dec.{ltb, eqb}
+use lib.IntN.{ℤ, natAbs}
+use lib.Signed.{ltZ}
+use lib.ListN.{length}
+use lib.Ieee.{Float, nan, inf, fin, lt, le}
+use Rattle.float.specs.Magnitude.{magnitudeOf}
+use Rattle.checks.specs.Limits.{leastCoordinates, mostCoordinates, axes, mostSamples, farthestInstant, farthest, closest, nought}
+
+-- whether one of a list is such
+unfoldable pub any : {A : Type 0} → (A → Bool) → List A → Bool
+any p [] = false
+any p (x ∷ xs) = p x || any p xs
+
+-- 1. "Fewer than 10 or more than 4,096 coordinates, or a position slice that is not three times as long as the instants"
+abbrev pub miscounted : List ℤ → List Float → Bool
+miscounted instants positions = ltb (length instants) leastCoordinates || ltb mostCoordinates (length instants) || not (eqb (length positions) (axes * length instants))
+
+-- 2. "No sample, more than 4,096, or two sample slices of unequal length"
+abbrev pub unsampled : List ℤ → List Float → Bool
+unsampled instants frequencies = eqb (length instants) 0 || ltb mostSamples (length instants) || not (eqb (length frequencies) (length instants))
+
+-- 3. "A result area (instants or frequencies) shorter than the number of samples"
+abbrev pub tooShort : List ℤ → List ℤ → List Float → Bool
+tooShort samples instantArea frequencyArea = ltb (length instantArea) (length samples) || ltb (length frequencyArea) (length samples)
+
+-- 4. "An instant whose magnitude is over 4,000,000,000,000,000,000"
+abbrev pub beyond : ℤ → Bool
+beyond t = ltb farthestInstant (natAbs t)
+
+-- 5. "Coordinate instants that do not strictly rise"
+unfoldable pub unrising : List ℤ → Bool
+unrising [] = false
+unrising (a ∷ []) = false
+unrising (a ∷ b ∷ r) = not (ltZ a b) || unrising (b ∷ r)
+
+-- 6. "A component not finite or over 100,000,000 m in magnitude": an infinity or a NaN is not at most that
+abbrev pub unreachable : Float → Bool
+unreachable c = not (le (magnitudeOf c) farthest)
+
+-- 6. "or with all three magnitudes under 1,000,000 m (kilometres, or a blank entry)"
+abbrev pub inside : Float → Bool
+inside c = lt (magnitudeOf c) closest
+
+abbrev pub misplaced : Float → Float → Float → Bool
+misplaced x y z = (unreachable x || unreachable y || unreachable z) || (inside x && inside y && inside z)
+
+-- 6. over a slice of positions, three doubles each; a slice of another length is refused by 1
+unfoldable pub anyMisplaced : List Float → Bool
+anyMisplaced [] = false
+anyMisplaced (x ∷ []) = false
+anyMisplaced (x ∷ y ∷ []) = false
+anyMisplaced (x ∷ y ∷ z ∷ r) = misplaced x y z || anyMisplaced r
+
+-- 7. "A sample frequency not finite"
+unfoldable pub infinite : Float → Bool
+infinite nan = true
+infinite (inf s) = true
+infinite (fin s m e) = false
+
+-- 7. "or a centre frequency not finite or not above zero"
+abbrev pub noCentre : Float → Bool
+noCentre f0 = infinite f0 || not (lt nought f0)

@@ -1,0 +1,36 @@
+-- The numbers of document 01's checks, each named once.
+use Prim.Native.Nat.{ℕ}
+use mathlib.Core.Bool.{false}
+use lib.IntN.{pos}
+use lib.Ieee.{Float, fin}
+
+-- "Fewer than 10 or more than 4,096 coordinates"
+abbrev pub leastCoordinates : ℕ
+leastCoordinates = 10
+
+abbrev pub mostCoordinates : ℕ
+mostCoordinates = 4096
+
+-- doubles in a position
+abbrev pub axes : ℕ
+axes = 3
+
+-- "No sample, more than 4,096"
+abbrev pub mostSamples : ℕ
+mostSamples = 4096
+
+-- "An instant whose magnitude is over 4,000,000,000,000,000,000", in nanoseconds
+abbrev pub farthestInstant : ℕ
+farthestInstant = 4000000000000000000
+
+-- "over 100,000,000 m in magnitude": 5 ^ 8 * 2 ^ 8
+abbrev pub farthest : Float
+farthest = fin false 390625 (pos 8)
+
+-- "all three magnitudes under 1,000,000 m": 5 ^ 6 * 2 ^ 6
+abbrev pub closest : Float
+closest = fin false 15625 (pos 6)
+
+-- +0.0
+abbrev pub nought : Float
+nought = fin false 0 (pos 0)

@@ -1,0 +1,14 @@
+// Checks 1 to 7 of document 01, each one function proved equal to its definition, and the first that fails for each entry.
+// A refusal is its number; 0 is none.
+mod entries;
+mod instants;
+mod numbers;
+mod places;
+
+pub use entries::refuse_closest;
+pub use entries::refuse_evaluation;
+pub use entries::refuse_fit;
+pub use entries::refuse_means;
+pub use entries::refuse_pass;
+pub use entries::refuse_propagation;
+pub use entries::refuse_samples;

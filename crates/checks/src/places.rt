@@ -1,0 +1,54 @@
+// Check 6: coordinates and the observer, in metres.
+ghost use mathlib.Core.Path.{_≡_};
+ghost use Rattle.checks.specs.Checks.{unreachable, inside, misplaced, anyMisplaced};
+use float::magnitude;
+
+// A component that is not finite or over 100,000,000 m in magnitude.
+fn unreachable(c: f64) -> bool
+    ensures { λ r. ⌜ r ≡ unreachable c ⌝ }
+{
+    !(magnitude(c) <= 100000000.0)
+}
+
+// A component under 1,000,000 m in magnitude.
+fn inside(c: f64) -> bool
+    ensures { λ r. ⌜ r ≡ inside c ⌝ }
+{
+    magnitude(c) < 1000000.0
+}
+
+// A place that no satellite or observer can have: too far, or given in kilometres or left blank.
+pub(crate) fn misplaced(x: f64, y: f64, z: f64) -> bool
+    ensures { λ r. ⌜ r ≡ misplaced x y z ⌝ }
+{
+    if unreachable(x) {
+        return true;
+    }
+    if unreachable(y) {
+        return true;
+    }
+    if unreachable(z) {
+        return true;
+    }
+    if !inside(x) {
+        return false;
+    }
+    if !inside(y) {
+        return false;
+    }
+    inside(z)
+}
+
+// Check 6 of a slice of positions, three doubles each.
+pub(crate) fn any_misplaced(positions: &[f64]) -> bool
+    ensures { λ r. ⌜ r ≡ anyMisplaced (now (positions .entry)) ⌝ }
+{
+    let places = positions.len() / 3;
+    for k in 0..places {
+        let at = 3 * k;
+        if misplaced(positions[at], positions[at + 1], positions[at + 2]) {
+            return true;
+        }
+    }
+    false
+}

@@ -1,0 +1,65 @@
+-- `evaluate` and `propagate_ecef`: position in metres and velocity in metres for each second at an instant.
+use Prim.Native.Nat.{ℕ}
+use mathlib.Core.List.{List}
+use lib.IntN.{ℤ}
+use lib.Ieee.{Float, binary64, sub, mul, div}
+use Rattle.chebyshev.specs.Recurrence.{rounded, valueOf, slopeOf}
+use Rattle.units.specs.declared.Position.{Position}
+use Rattle.units.specs.declared.Velocity.{Velocity}
+use Rattle.checks.specs.Outcome.{Outcome, refused, answered, outcome, unlessRefused}
+use Rattle.checks.specs.Entries.{firstFailing, evaluationChecks, propagationChecks}
+use Rattle.orbit.specs.declared.window.ChebyshevOrbit.{ChebyshevOrbit}
+use Rattle.orbit.specs.declared.propagation.Propagation.{Propagation}
+use Rattle.orbit.specs.declared.propagation.Propagation.the-variants.{At, Refused}
+use Rattle.orbit.specs.Window.{two, secondsOf, tauOf, evenTolerance, modelAbout}
+
+-- where a satellite is and how it moves
+pub record Motion : Type 0 where
+  pub position : Position
+  pub velocity : Velocity
+
+-- τ of an instant in a model's window, and how fast τ runs
+abbrev pub tauAt : ChebyshevOrbit → ℤ → Float
+tauAt m t = tauOf (m .t0 .0) (m .t9 .0) (secondsOf t)
+
+abbrev pub tauRate : ChebyshevOrbit → Float
+tauRate m = div binary64 two (sub binary64 (m .t9 .0) (m .t0 .0))
+
+-- "Instants outside the table are extrapolated": any instant has a τ
+abbrev pub positionAt : ChebyshevOrbit → ℤ → Position
+positionAt m t = let τ = tauAt m t in record { x = valueOf rounded (m .cx) τ; y = valueOf rounded (m .cy) τ; z = valueOf rounded (m .cz) τ }
+
+abbrev pub velocityAt : ChebyshevOrbit → ℤ → Velocity
+velocityAt m t =
+    let τ = tauAt m t in
+    record {
+      x = mul binary64 (slopeOf rounded (m .cx) τ) (tauRate m);
+      y = mul binary64 (slopeOf rounded (m .cy) τ) (tauRate m);
+      z = mul binary64 (slopeOf rounded (m .cz) τ) (tauRate m);
+    }
+
+abbrev pub motionAt : ChebyshevOrbit → ℤ → Motion
+motionAt m t = record { position = positionAt m t; velocity = velocityAt m t }
+
+abbrev pub evaluated : Outcome ChebyshevOrbit → ℤ → Outcome Motion
+evaluated (refused n) t = refused n
+evaluated (answered m) t = answered (motionAt m t)
+
+-- an instant propagated by a table that passed its checks: a position, or 8
+abbrev pub propagated : Float → List ℤ → List Float → ℤ → Outcome Motion
+propagated tolerance instants positions t = evaluated (modelAbout tolerance instants positions t) t
+
+-- ---- the entries
+
+-- check 4
+abbrev pub evaluation : ChebyshevOrbit → ℤ → Outcome Motion
+evaluation m t = outcome (firstFailing (evaluationChecks t)) (motionAt m t)
+
+-- checks 1, 4, 5, 6, then 8
+abbrev pub propagation : List ℤ → List Float → ℤ → Outcome Motion
+propagation instants positions t = unlessRefused (firstFailing (propagationChecks instants positions t)) (propagated evenTolerance instants positions t)
+
+-- the paper's number and values of each case of the answer
+abbrev pub motionIn : Propagation → Outcome Motion
+motionIn (At p v) = answered (record { position = p; velocity = v })
+motionIn (Refused n) = refused n

@@ -1,0 +1,150 @@
+-- `get_chebyshev_model`: the window of ten coordinates about an instant, and its Chebyshev model. Instants are nanoseconds, times seconds,
+-- positions metres, three doubles each.
+use Prim.Native.Nat.{ℕ, zero, suc, _+_, _-_, _*_}
+use mathlib.Core.Bool.{Bool, true, false, _||_, cond}
+use mathlib.Core.List.{List, [], _∷_}
+use lib.Dec.{ltb, leb}
+use lib.IntN.{ℤ, pos, negsuc}
+use lib.Signed.{leZ}
+use lib.ListN.{length, getD, replicate}
+use lib.Ieee.{Float, nan, fin, binary64, sub, mul, div, lt}
+use Rattle.float.specs.Conversions.{nearestOf}
+use Rattle.float.specs.Magnitude.{magnitudeOf}
+use Rattle.chebyshev.specs.Lists.{listOf}
+use Rattle.chebyshev.specs.Recurrence.{rounded, polynomials, terms}
+use Rattle.chebyshev.specs.Inverse.{Row, Matrix, inverted, rowsOf}
+use Rattle.chebyshev.specs.Inverse.{Outcome as Inversion, singular, inverse}
+use Rattle.chebyshev.specs.Ideal.{idealMatrix}
+use Rattle.chebyshev.specs.Coefficients.{coefficientsBy}
+use Rattle.units.specs.declared.Seconds.{Seconds}
+use Rattle.checks.specs.Outcome.{Outcome, refused, answered, unlessRefused}
+use Rattle.checks.specs.Entries.{firstFailing, propagationChecks}
+use Rattle.orbit.specs.declared.window.ChebyshevOrbit.{ChebyshevOrbit}
+use Rattle.orbit.specs.declared.window.Model.{Model}
+
+-- "idx is the last coordinate at or before the instant, or 0": the index k of the first, and the last found so far
+unfoldable pub lastFrom : ℕ → ℕ → List ℤ → ℤ → ℕ
+lastFrom k found [] t = found
+lastFrom k found (x ∷ xs) t = lastFrom (k + 1) (cond (leZ x t) k found) xs t
+
+abbrev pub lastBefore : List ℤ → ℤ → ℕ
+lastBefore instants t = lastFrom 0 0 instants t
+
+-- "Start is 0 if idx < 4, length − 10 if idx + 5 ≥ length, else idx − 4"
+abbrev pub startOf : ℕ → ℕ → ℕ
+startOf idx n = cond (ltb idx 4) 0 (cond (leb n (idx + 5)) (n - terms) (idx - 4))
+
+abbrev pub windowStart : List ℤ → ℤ → ℕ
+windowStart instants t = startOf (lastBefore instants t) (length instants)
+
+-- 1e-9, and 1.0, 2.0 and 9.0
+abbrev pub nanosecond : Float
+nanosecond = fin false 4835703278458517 (negsuc 81)
+
+abbrev pub one : Float
+one = fin false 1 (pos 0)
+
+abbrev pub two : Float
+two = fin false 1 (pos 1)
+
+abbrev pub nine : Float
+nine = fin false 9 (pos 0)
+
+-- the tolerance of an even window in seconds, 1.0
+abbrev pub evenTolerance : Float
+evenTolerance = one
+
+-- "Seconds are the rounded nanoseconds times 1e-9"
+abbrev pub secondsOf : ℤ → Float
+secondsOf n = mul binary64 (nearestOf n) nanosecond
+
+-- the ten times of the window that begins at start
+abbrev pub windowSeconds : List ℤ → ℕ → List Float
+windowSeconds instants start = listOf (λ k. secondsOf (getD instants (start + k) (pos 0))) terms 0
+
+-- the first and the last of ten times
+abbrev pub firstTime : List Float → Float
+firstTime t = getD t 0 nan
+
+abbrev pub lastTime : List Float → Float
+lastTime t = getD t 9 nan
+
+-- "no gap differs from (t9 − t0)/9 by more than 1.0": the gap after time k is off by more than the tolerance; a NaN is not more
+abbrev pub wideGap : Float → List Float → ℕ → Bool
+wideGap tolerance t k = lt tolerance (magnitudeOf (sub binary64 (sub binary64 (getD t (k + 1) nan) (getD t k nan)) (div binary64 (sub binary64 (lastTime t) (firstTime t)) nine)))
+
+-- one of the n gaps from k on is wide
+unfoldable pub wideFrom : ℕ → ℕ → Float → List Float → Bool
+wideFrom zero k tolerance t = false
+wideFrom (suc n) k tolerance t = wideGap tolerance t k || wideFrom n (k + 1) tolerance t
+
+abbrev pub uneven : Float → List Float → Bool
+uneven tolerance t = wideFrom 9 0 tolerance t
+
+-- τ of a time between the window's ends: 2 (t − t0)/(t9 − t0) − 1
+abbrev pub tauOf : Float → Float → Float → Float
+tauOf t0 t9 t = sub binary64 (div binary64 (mul binary64 two (sub binary64 t t0)) (sub binary64 t9 t0)) one
+
+-- T0 to T9 at each of the ten times
+abbrev pub nodeMatrix : List Float → Matrix
+nodeMatrix t = listOf (λ k. polynomials rounded (tauOf (firstTime t) (lastTime t) (getD t k nan))) terms 0
+
+-- doubles in a position, and one axis of the window's ten positions
+abbrev pub axes : ℕ
+axes = 3
+
+abbrev pub axisOf : List Float → ℕ → ℕ → Row
+axisOf positions start axis = listOf (λ k. getD positions (axes * (start + k) + axis) nan) terms 0
+
+-- the coefficients of one axis by the inverse of the nodes' matrix
+abbrev pub coefficients : Matrix → List Float → ℕ → ℕ → Row
+coefficients inv positions start axis = coefficientsBy inv (axisOf positions start axis)
+
+-- the model of a window by the inverse of its nodes
+abbrev pub modelBy : Matrix → List Float → List Float → ℕ → ChebyshevOrbit
+modelBy inv t positions start = record {
+  t0 = record { 0 = firstTime t };
+  t9 = record { 0 = lastTime t };
+  cx = coefficients inv positions start 0;
+  cy = coefficients inv positions start 1;
+  cz = coefficients inv positions start 2;
+}
+
+-- an inversion that is refused by 8, or the model by it
+abbrev pub modelOr : Inversion → List Float → List Float → ℕ → Outcome ChebyshevOrbit
+modelOr singular t positions start = refused 8
+modelOr (inverse v) t positions start = answered (modelBy v t positions start)
+
+-- "then ideal nodes −1 + 2k/9 are used": of an even window the ideal matrix is inverted, else that of its own nodes
+abbrev pub inversionOf : Float → List Float → Inversion
+inversionOf tolerance t = inverted (cond (uneven tolerance t) (nodeMatrix t) idealMatrix)
+
+-- the model of the window that begins at start
+abbrev pub modelAt : Float → List ℤ → List Float → ℕ → Outcome ChebyshevOrbit
+modelAt tolerance instants positions start = let t = windowSeconds instants start in modelOr (inversionOf tolerance t) t positions start
+
+-- the model about an instant
+abbrev pub modelAbout : Float → List ℤ → List Float → ℤ → Outcome ChebyshevOrbit
+modelAbout tolerance instants positions t = modelAt tolerance instants positions (windowStart instants t)
+
+-- ---- the entry: checks 1, 4, 5, 6, then 8
+
+abbrev pub chebyshevModel : List ℤ → List Float → ℤ → Outcome ChebyshevOrbit
+chebyshevModel instants positions t = unlessRefused (firstFailing (propagationChecks instants positions t)) (modelAbout evenTolerance instants positions t)
+
+-- the paper's number and values of the answer: zeros stand beside a refusal
+abbrev pub nought : Float
+nought = fin false 0 (pos 0)
+
+abbrev pub blankModel : ChebyshevOrbit
+blankModel = record {
+  t0 = record { 0 = nought };
+  t9 = record { 0 = nought };
+  cx = replicate terms nought;
+  cy = replicate terms nought;
+  cz = replicate terms nought;
+}
+
+abbrev pub modelAnswer : Outcome ChebyshevOrbit → Model
+modelAnswer (refused n) = record { refusal = n; orbit = blankModel }
+modelAnswer (answered m) = record { refusal = 0; orbit = m }

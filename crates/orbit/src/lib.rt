@@ -1,0 +1,13 @@
+// The tabulated orbit: the Chebyshev model about an instant, position and velocity, and the closest approach.
+mod closest;
+mod propagation;
+mod window;
+
+pub use closest::ClosestApproach;
+pub use closest::find_pca_time;
+pub use propagation::Propagation;
+pub use propagation::evaluate;
+pub use propagation::propagate_ecef;
+pub use window::ChebyshevOrbit;
+pub use window::Model;
+pub use window::get_chebyshev_model;

@@ -1,0 +1,116 @@
+-- The early returns are the definition's conjunction, test by test; the two instants are near 1970, so the gap is the definition's. Assumes nothing.
+use borrow.Author.Needs.{needs}
+use mathlib.Core.Path.{_≡_, sym, ap₂, _∙_, subst}
+use Prim.Native.Nat.{_+_, _-_}
+use lib.IntN.{pos}
+use lib.ListN.{getD}
+use lib.Ieee.{ofBits}
+use Rattle.samples.specs.Approach.{gapOf, gapAt}
+use Rattle.samples.proofs.Gaps.{Near, back-near}
+use Rattle.samples.proofs.Slopes.{kept-by-gap, kept-by-slope, kept-by-floor, won}
+use Rattle.samples.proofs.approach.steeper_at.Statement.{statement}
+use Rattle.samples.proofs.approach.steeper_at.Tie as tie
+
+sub-gap-between : tie.Need-sub-gap-between
+sub-gap-between c = search needs
+
+mul-gap-between : tie.Need-mul-gap-between
+mul-gap-between c = search needs
+
+shared-slice-copy-out-gap-between : tie.Need-shared-slice-copy-out-gap-between
+shared-slice-copy-out-gap-between c = search needs
+
+add-gap-between : tie.Need-add-gap-between
+add-gap-between c = search needs
+
+mul-gap-between-2 : tie.Need-mul-gap-between-2
+mul-gap-between-2 c = search needs
+
+shared-slice-copy-out-gap-between-2 : tie.Need-shared-slice-copy-out-gap-between-2
+shared-slice-copy-out-gap-between-2 c = search needs
+
+gap-between-requires : tie.Need-gap-between-requires
+gap-between-requires c κs =
+    let s = c .before .before .before in
+    let ts = s .args .instants .now in
+    let i = s .args .i in
+    let near = s .pre .3 in (
+      subst Near (sym (back-near (getD ts (i - 1) (pos 0)) (near (i - 1)))) (near (i - 1)),
+      subst Near (sym (back-near (getD ts (i + 1) (pos 0)) (near (i + 1)))) (near (i + 1)),
+    )
+
+-- the gap is the definition's
+gap-is : (c : tie.After-gap-between) → c .gap-between .result ≡ gapAt (c .before .before .before .before .args .instants .now) (c .before .before .before .before .args .i)
+gap-is c =
+    let s = c .before .before .before .before in
+    let ts = s .args .instants .now in
+    let i = s .args .i in
+    let near = s .pre .3 in
+    c .gap-between .ensures ∙ ap₂ gapOf (back-near (getD ts (i - 1) (pos 0)) (near (i - 1))) (back-near (getD ts (i + 1) (pos 0)) (near (i + 1)))
+
+returns : tie.Need-returns
+unfolding ofBits
+returns c =
+    let a = c .before .before .before .before .before .args in
+    kept-by-gap (a .floor) (a .instants .now) (a .frequencies .now) (a .i) (a .best .slope) (a .best .middle) (c .before .gap-between .result) (gap-is (c .before)) (c .if1 .taken)
+
+add-slope : tie.Need-add-slope
+add-slope c = search needs
+
+mul-slope : tie.Need-mul-slope
+mul-slope c = search needs
+
+shared-slice-read-slope : tie.Need-shared-slice-read-slope
+shared-slice-read-slope c = search needs
+
+sub-slope : tie.Need-sub-slope
+sub-slope c = search needs
+
+mul-slope-2 : tie.Need-mul-slope-2
+mul-slope-2 c = search needs
+
+shared-slice-read-slope-2 : tie.Need-shared-slice-read-slope-2
+shared-slice-read-slope-2 c = search needs
+
+returns-2 : tie.Need-returns-2
+unfolding ofBits
+returns-2 c =
+    let g = c .before .before .before .before .before in
+    let a = g .before .before .before .before .args in
+    kept-by-slope (a .floor) (a .instants .now) (a .frequencies .now) (a .i) (a .best .slope) (a .best .middle) (g .gap-between .result) (gap-is g) (c .if2 .taken)
+
+returns-3 : tie.Need-returns-3
+unfolding ofBits
+returns-3 c =
+    let g = c .before .before .before .before .before .before in
+    let a = g .before .before .before .before .args in
+    kept-by-floor (a .floor) (a .instants .now) (a .frequencies .now) (a .i) (a .best .slope) (a .best .middle) (g .gap-between .result) (gap-is g) (c .if3 .taken)
+
+returns-4 : tie.Need-returns-4
+unfolding ofBits
+returns-4 c =
+    let g = c .before .before .before .before .before .before in
+    let a = g .before .before .before .before .args in
+    won (a .floor) (a .instants .now) (a .frequencies .now) (a .i) (a .best .slope) (a .best .middle) (g .gap-between .result) (gap-is g) (c .before .before .before .before .before .if1 .left) (c .before .if2 .left) (c .if3 .left)
+
+pub steeper-at-spec : {M : Type 1} → statement M
+steeper-at-spec =
+    tie.close
+    (tie.spec
+    sub-gap-between
+    mul-gap-between
+    shared-slice-copy-out-gap-between
+    add-gap-between
+    mul-gap-between-2
+    shared-slice-copy-out-gap-between-2
+    gap-between-requires
+    returns
+    add-slope
+    mul-slope
+    shared-slice-read-slope
+    sub-slope
+    mul-slope-2
+    shared-slice-read-slope-2
+    returns-2
+    returns-3
+    returns-4)

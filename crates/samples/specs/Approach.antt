@@ -1,0 +1,88 @@
+-- `estimate_measured_pca_time` and the steepest slope: the first least slope below zero.
+use Prim.Native.Nat.{ℕ, zero, suc, _+_, _-_}
+use mathlib.Core.Bool.{Bool, true, false, not, _&&_, cond}
+use mathlib.Core.List.{List}
+use lib.IntN.{ℤ, pos, _-ℤ_}
+use lib.Signed.{quotZ}
+use lib.ListN.{length, getD}
+use lib.Ieee.{Float, nan, inf, fin, binary64, sub, div, lt}
+use Rattle.float.specs.Conversions.{nearestOf}
+use Rattle.checks.specs.Outcome.{Outcome, refused, answered, outcome, unlessRefused}
+use Rattle.checks.specs.Entries.{firstFailing, samplesChecks}
+use Rattle.units.specs.declared.Nanoseconds.{Nanoseconds}
+use Rattle.samples.specs.declared.approach.Approach.{Approach}
+use Rattle.samples.specs.declared.approach.Approach.the-variants.{At}
+use Rattle.samples.specs.declared.approach.Approach.the-variants.{Refused as NoApproach}
+use Rattle.samples.specs.declared.approach.Slope.{Slope}
+use Rattle.samples.specs.declared.approach.Slope.the-variants.{Steepest}
+use Rattle.samples.specs.declared.approach.Slope.the-variants.{Refused as NoSlope}
+
+-- +0.0, 1000.0 and −120.0
+abbrev pub nought : Float
+nought = fin false 0 (pos 0)
+
+abbrev pub thousand : Float
+thousand = fin false 125 (pos 3)
+
+-- "slopes under −120 are passed over"
+abbrev pub steepestSlope : Float
+steepestSlope = fin true 15 (pos 3)
+
+-- the measured approach passes over none: nothing is under −infinity
+abbrev pub noFloor : Float
+noFloor = inf true
+
+-- nanoseconds in a millisecond
+abbrev pub millisecond : ℕ
+millisecond = 1000000
+
+-- "times in whole milliseconds over 1000": the seconds from one instant to another
+abbrev pub gapOf : ℤ → ℤ → Float
+gapOf previous next = div binary64 (nearestOf (quotZ (next -ℤ previous) (pos millisecond))) thousand
+
+-- "(f next − f previous)/(t next − t previous)" about sample i, in hertz for each second
+abbrev pub gapAt : List ℤ → ℕ → Float
+gapAt ts i = gapOf (getD ts (i - 1) (pos 0)) (getD ts (i + 1) (pos 0))
+
+abbrev pub slopeAt : List ℤ → List Float → ℕ → Float
+slopeAt ts fs i = div binary64 (sub binary64 (getD fs (i + 1) nan) (getD fs (i - 1) nan)) (gapAt ts i)
+
+-- a slope and the index of its middle sample
+pub record Least : Type 0 where
+  pub slope : Float
+  pub middle : ℕ
+
+-- "only where positive": sample i has a slope, it is below the least so far, and it is not under the floor
+abbrev pub steeper : Float → List ℤ → List Float → ℕ → Float → Bool
+steeper floor ts fs i least = lt nought (gapAt ts i) && (lt (slopeAt ts fs i) least && not (lt (slopeAt ts fs i) floor))
+
+-- of best and the n samples from i on, the first least
+unfoldable pub seekLeast : ℕ → Float → List ℤ → List Float → ℕ → Least → Least
+seekLeast zero floor ts fs i best = best
+seekLeast (suc n) floor ts fs i best = seekLeast n floor ts fs (i + 1) (cond (steeper floor ts fs i (best .slope)) (record { slope = slopeAt ts fs i; middle = i }) best)
+
+-- the first least slope below zero, over all samples but the first and the last; slope +0.0 where there is none
+abbrev pub leastSlope : Float → List ℤ → List Float → Least
+leastSlope floor ts fs = seekLeast (length ts - 2) floor ts fs 1 (record { slope = nought; middle = 0 })
+
+-- "the first least below zero gives its middle sample's instant", in nanoseconds; 9 where no slope below zero was found
+abbrev pub approachOf : List ℤ → List Float → Outcome ℤ
+approachOf ts fs = let best = leastSlope noFloor ts fs in cond (lt (best .slope) nought) (answered (getD ts (best .middle) (pos 0))) (refused 9)
+
+-- ---- the entries: checks 2 and 4 first
+
+abbrev pub measuredApproach : List ℤ → List Float → Outcome ℤ
+measuredApproach ts fs = unlessRefused (firstFailing (samplesChecks ts fs)) (approachOf ts fs)
+
+-- "answers 0 where none is below zero or under three samples"
+abbrev pub steepest : List ℤ → List Float → Outcome Float
+steepest ts fs = outcome (firstFailing (samplesChecks ts fs)) (leastSlope steepestSlope ts fs .slope)
+
+-- the paper's number and value of each case of the answers
+abbrev pub approachIn : Approach → Outcome ℤ
+approachIn (At t) = answered (t .0)
+approachIn (NoApproach n) = refused n
+
+abbrev pub slopeIn : Slope → Outcome Float
+slopeIn (Steepest s) = answered s
+slopeIn (NoSlope n) = refused n

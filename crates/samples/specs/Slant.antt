@@ -1,0 +1,25 @@
+-- `estimate_slant_range`: f0·7585²/(299792458·|slope|), in metres.
+use mathlib.Core.Bool.{true, false, cond}
+use lib.IntN.{pos, negsuc}
+use lib.Ieee.{Float, fin, binary64, mul, div, lt}
+use Rattle.float.specs.Magnitude.{magnitudeOf}
+
+-- 7585 m/s, the speed of the satellite; 299792458 m/s, the speed of light; 0.1 Hz/s; 2,000,000 m
+abbrev pub satelliteSpeed : Float
+satelliteSpeed = fin false 7585 (pos 0)
+
+abbrev pub lightSpeed : Float
+lightSpeed = fin false 149896229 (pos 1)
+
+abbrev pub leastSteepness : Float
+leastSteepness = fin false 3602879701896397 (negsuc 54)
+
+abbrev pub fallbackRange : Float
+fallbackRange = fin false 15625 (pos 7)
+
+-- "in the Rust's order if |slope| > 0.1, else 2,000,000"
+abbrev pub slantRange : Float → Float → Float
+slantRange f0 slope =
+    cond (lt leastSteepness (magnitudeOf slope))
+    (div binary64 (mul binary64 (mul binary64 f0 satelliteSpeed) satelliteSpeed) (mul binary64 lightSpeed (magnitudeOf slope)))
+    fallbackRange
