@@ -1,4 +1,4 @@
--- The difference of two instants within 4e18 of 1970 fits an i64, and so does its quotient; each is the definition's. Assumes nothing.
+-- The difference of two instants within 4.1e18 of 1970, which holds those within 4e18 and those some seconds from them, fits an i64, and so does its quotient; each is the definition's. Assumes nothing.
 use mathlib.Core.Path.{_≡_, sym, ap, ap₂, _∙_, subst}
 use mathlib.Core.Bool.{Bool, true, false, cond}
 use Prim.Native.Nat.{ℕ, zero, suc, _+_, _-_, _/_, _≤_}
@@ -42,7 +42,7 @@ abbrev pub back : ℤ → ℤ
 back z = toZ w64 (ofZ w64 z)
 
 abbrev pub Near : ℤ → Type 0
-Near z = natAbs z ≤ 4000000000000000000
+Near z = natAbs z ≤ 4100000000000000000
 
 near-fits : (z : ℤ) → Near z → SFits w64 z
 near-fits (pos a) h = record { sfits = omega arith }
@@ -53,7 +53,7 @@ back-near z h = toZ-ofZ w64 z (near-fits z h)
 
 module _ (x y : ℤ) (near-x : Near x) (near-y : Near y) where
   difference-fits : SFits w64 (x -ℤ y)
-  difference-fits = let h = mag-difference 4000000000000000000 x y near-x near-y in record { sfits = omega arith }
+  difference-fits = let h = mag-difference 4100000000000000000 x y near-x near-y in record { sfits = omega arith }
 
   quotient-fits : (k : ℕ) → SFits w64 (quotZ (x -ℤ y) (pos k))
   quotient-fits k = record { sfits = lt-of-le-of-lt (mag-quotient (x -ℤ y) k) (difference-fits .sfits) }

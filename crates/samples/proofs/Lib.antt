@@ -1,4 +1,15 @@
--- What the proofs of samples share. Assumes nothing.
-mod Gaps
+-- What the proofs of samples share, and the laws that the crates above cite (`pub`). Assumes nothing.
+pub mod Gaps
 mod Slopes
 mod Answers
+mod Parts
+mod Starts
+pub mod Seconds
+pub mod OwnSeconds
+pub mod Recordings
+mod Sums
+mod Places
+mod Runs
+mod Nexts
+mod Areas
+mod Filling

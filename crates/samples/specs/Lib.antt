@@ -1,3 +1,6 @@
 -- The definitions of samples: means, slopes and slant range.
+pub mod Means
+pub mod Sums
+pub mod Scans
 pub mod Approach
 pub mod Slant

@@ -29,7 +29,7 @@ struct LeastSlope {
 
 // The seconds between two instants, in whole milliseconds over 1000.
 fn gap_between(previous: i64, next: i64) -> f64
-    requires { ⌜ (natAbs previous ≤ 4000000000000000000) × (natAbs next ≤ 4000000000000000000) ⌝ }
+    requires { ⌜ (natAbs previous ≤ 4100000000000000000) × (natAbs next ≤ 4100000000000000000) ⌝ }
     ensures { λ r. ⌜ r ≡ gapOf previous next ⌝ }
 {
     nearest((next - previous) / 1000000) / 1000.0

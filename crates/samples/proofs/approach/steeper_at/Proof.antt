@@ -1,7 +1,9 @@
 -- The early returns are the definition's conjunction, test by test; the two instants are near 1970, so the gap is the definition's. Assumes nothing.
 use borrow.Author.Needs.{needs}
 use mathlib.Core.Path.{_≡_, sym, ap₂, _∙_, subst}
-use Prim.Native.Nat.{_+_, _-_}
+use Prim.Native.Nat.{ℕ, _+_, _-_}
+use native.Mathlib.Nat.{le-trans}
+use native.Mathlib.Omega.{arith}
 use lib.IntN.{pos}
 use lib.ListN.{getD}
 use lib.Ieee.{ofBits}
@@ -34,7 +36,7 @@ gap-between-requires c κs =
     let s = c .before .before .before in
     let ts = s .args .instants .now in
     let i = s .args .i in
-    let near = s .pre .3 in (
+    let near : (k : ℕ) → Near (getD ts k (pos 0)) = λ k. le-trans (s .pre .3 k) (omega arith) in (
       subst Near (sym (back-near (getD ts (i - 1) (pos 0)) (near (i - 1)))) (near (i - 1)),
       subst Near (sym (back-near (getD ts (i + 1) (pos 0)) (near (i + 1)))) (near (i + 1)),
     )
@@ -45,7 +47,7 @@ gap-is c =
     let s = c .before .before .before .before in
     let ts = s .args .instants .now in
     let i = s .args .i in
-    let near = s .pre .3 in
+    let near : (k : ℕ) → Near (getD ts k (pos 0)) = λ k. le-trans (s .pre .3 k) (omega arith) in
     c .gap-between .ensures ∙ ap₂ gapOf (back-near (getD ts (i - 1) (pos 0)) (near (i - 1))) (back-near (getD ts (i + 1) (pos 0)) (near (i + 1)))
 
 returns : tie.Need-returns

@@ -1,0 +1,124 @@
+-- `downsample_data`: "one for each second that holds a sample, seconds rising". An instant is a signed count of nanoseconds since 1970-01-01.
+use Prim.Native.Nat.{ℕ}
+use mathlib.Core.Path.{_≡_}
+use mathlib.Core.Bool.{Bool, true, false, cond}
+use mathlib.Core.List.{List, [], _∷_, map}
+use lib.Dec.{eqb}
+use lib.IntN.{ℤ, pos, negsuc, _+ℤ_, _-ℤ_, _*ℤ_}
+use lib.Signed.{ltZ, quotZ, shrZ}
+use lib.ListN.{length}
+use lib.Ieee.{Float, fin, binary64, add, div}
+use Rattle.float.specs.Conversions.{nearestOf}
+use Rattle.checks.specs.Outcome.{Outcome, refused, answered, outcome, area}
+use Rattle.checks.specs.Entries.{firstFailing, meansChecks}
+use Rattle.samples.specs.declared.means.Downsampled.{Downsampled}
+use Rattle.samples.specs.declared.means.Downsampled.the-variants.{Count, Refused}
+
+-- "A sample is an instant with its frequency", in nanoseconds and hertz
+pub record Sample : Type 0 where
+  pub instant : ℤ
+  pub frequency : Float
+
+-- the samples of two slices; "order is that of the slices"
+unfoldable pub recording : List ℤ → List Float → List Sample
+recording [] fs = []
+recording (t ∷ ts) [] = []
+recording (t ∷ ts) (f ∷ fs) = record { instant = t; frequency = f } ∷ recording ts fs
+
+-- nanoseconds in a second, and in a microsecond
+abbrev pub second : ℕ
+second = 1000000000
+
+abbrev pub microsecond : ℕ
+microsecond = 1000
+
+-- "its whole second is the floor of its seconds": −1 ns lies in second −1, 0 ns in second 0
+abbrev pub wholeSecond : ℤ → ℤ
+wholeSecond t = shrZ t second
+
+abbrev pub eqZ : ℤ → ℤ → Bool
+eqZ (pos a) (pos b) = eqb a b
+eqZ (pos a) (negsuc b) = false
+eqZ (negsuc a) (pos b) = false
+eqZ (negsuc a) (negsuc b) = eqb a b
+
+-- the samples of the second s, in their order
+unfoldable pub bin : ℤ → List Sample → List Sample
+bin s [] = []
+bin s (x ∷ xs) = cond (eqZ (wholeSecond (x .instant)) s) (x ∷ bin s xs) (bin s xs)
+
+-- s put into a list that rises, unless it is there
+unfoldable pub insert : ℤ → List ℤ → List ℤ
+insert s [] = s ∷ []
+insert s (t ∷ ts) = cond (ltZ s t) (s ∷ t ∷ ts) (cond (ltZ t s) (t ∷ insert s ts) (t ∷ ts))
+
+-- the seconds that hold a sample, rising
+unfoldable pub seconds : List Sample → List ℤ
+unfolding insert
+seconds [] = []
+seconds (x ∷ xs) = insert (wholeSecond (x .instant)) (seconds xs)
+
+-- "sum of offsets in whole microseconds, each toward zero": each instant's distance from base
+unfoldable pub offsets : ℤ → List Sample → ℤ
+offsets base [] = pos 0
+offsets base (x ∷ xs) = quotZ (x .instant -ℤ base) (pos microsecond) +ℤ offsets base xs
+
+-- "sum in sample order", onto a
+unfoldable pub frequencySum : Float → List Sample → Float
+unfolding add
+frequencySum a [] = a
+frequencySum a (x ∷ xs) = frequencySum (add binary64 a (x .frequency)) xs
+
+-- "from 0.0"
+abbrev pub nought : Float
+nought = fin false 0 (pos 0)
+
+-- "the bin's first plus (sum of offsets in whole microseconds, each toward zero) divided by the count, toward zero"
+unfoldable pub meanInstant : ℤ → List Sample → ℤ
+unfolding offsets
+meanInstant base xs = base +ℤ quotZ (offsets base xs) (pos (length xs)) *ℤ pos microsecond
+
+-- "sum in sample order from 0.0, over the count"
+unfoldable pub meanFrequency : List Sample → Float
+unfolding frequencySum div
+meanFrequency xs = div binary64 (frequencySum nought xs) (nearestOf (pos (length xs)))
+
+-- the mean of a bin, whose base is its first sample's instant; an empty bin is no second's
+unfoldable pub meanOf : List Sample → Sample
+unfolding meanInstant meanFrequency
+meanOf [] = record { instant = pos 0; frequency = nought }
+meanOf (x ∷ xs) = record { instant = meanInstant (x .instant) (x ∷ xs); frequency = meanFrequency (x ∷ xs) }
+
+-- "one for each second that holds a sample, seconds rising"
+unfoldable pub means : List Sample → List Sample
+unfolding bin seconds meanOf
+means S = map (λ s. meanOf (bin s S)) (seconds S)
+
+abbrev pub instants : List Sample → List ℤ
+instants S = map (λ (x : Sample). x .instant) S
+
+abbrev pub frequencies : List Sample → List Float
+frequencies S = map (λ (x : Sample). x .frequency) S
+
+-- two recordings that are alike in the samples of each whole second and their order there
+abbrev pub Alike : List Sample → List Sample → Type 0
+Alike S S′ = (s : ℤ) → bin s S ≡ bin s S′
+
+-- ---- the entry: checks 2, 3, 4, then the count of means and what the two areas hold
+
+abbrev pub meansRefusal : List ℤ → List Float → List ℤ → List Float → ℕ
+meansRefusal ts fs instantArea frequencyArea = firstFailing (meansChecks ts fs instantArea frequencyArea)
+
+abbrev pub meansCount : List ℤ → List Float → List ℤ → List Float → Outcome ℕ
+meansCount ts fs instantArea frequencyArea = outcome (meansRefusal ts fs instantArea frequencyArea) (length (means (recording ts fs)))
+
+abbrev pub meansInstants : List ℤ → List Float → List ℤ → List Float → List ℤ
+meansInstants ts fs instantArea frequencyArea = area (meansRefusal ts fs instantArea frequencyArea) (instants (means (recording ts fs))) instantArea
+
+abbrev pub meansFrequencies : List ℤ → List Float → List ℤ → List Float → List Float
+meansFrequencies ts fs instantArea frequencyArea = area (meansRefusal ts fs instantArea frequencyArea) (frequencies (means (recording ts fs))) frequencyArea
+
+-- the paper's number and value of each case of the answer
+abbrev pub countOf : Downsampled → Outcome ℕ
+countOf (Count n) = answered n
+countOf (Refused n) = refused n

@@ -1,0 +1,42 @@
+-- What the scans below the entry say of the samples' instants, by their places.
+use Prim.Native.Nat.{ℕ, _+_, _≤_, _<_}
+use mathlib.Core.Path.{_≡_}
+use mathlib.Core.Logic.{_⊎_}
+use mathlib.Core.List.{List}
+use lib.IntN.{ℤ, pos, natAbs}
+use lib.Signed.{_<ℤ_, _≤ℤ_}
+use lib.ListN.{length, getD}
+use Rattle.checks.specs.Limits.{farthestInstant}
+use Rattle.samples.specs.Means.{wholeSecond}
+
+-- each instant passes check 4
+abbrev pub Reached : List ℤ → Type 0
+Reached ts = (k : ℕ) → natAbs (getD ts k (pos 0)) ≤ farthestInstant
+
+-- the second of sample k
+abbrev pub secondAt : List ℤ → ℕ → ℤ
+secondAt ts k = wholeSecond (getD ts k (pos 0))
+
+-- no sample's second is before that of the sample ahead of it
+abbrev pub NeverFalls : List ℤ → Type 0
+NeverFalls ts = (k : ℕ) → k + 1 < length ts → secondAt ts k ≤ℤ secondAt ts (k + 1)
+
+-- every sample ahead of sample from is of an earlier second
+abbrev pub Begins : List ℤ → ℕ → Type 0
+Begins ts from = (k : ℕ) → k < from → secondAt ts k <ℤ secondAt ts from
+
+-- the samples from one place up to another are those of one second that stand together there
+pub record Run (ts : List ℤ) (from end : ℕ) : Type 0 where
+  pub later : from < end
+  pub inside : end ≤ length ts
+  pub same : (k : ℕ) → from ≤ k → k < end → secondAt ts k ≡ secondAt ts from
+  pub ended : end < length ts → secondAt ts end ≡ secondAt ts from → ⊥
+
+-- past every instant
+abbrev pub late : ℤ
+late = pos 9223372036854775807
+
+-- the least instant at or after a bound, or late where there is none
+pub record Next (bound : ℤ) (ts : List ℤ) (least : ℤ) : Type 0 where
+  pub first : (k : ℕ) → k < length ts → bound ≤ℤ getD ts k (pos 0) → least ≤ℤ getD ts k (pos 0)
+  pub found : (least ≡ late) ⊎ ((k : ℕ) × (k < length ts) × (getD ts k (pos 0) ≡ least) × (bound ≤ℤ least))

@@ -1,0 +1,373 @@
+// The means of a recording, one for each second that holds a sample.
+ghost use mathlib.Core.Path.{_≡_};
+ghost use mathlib.Core.Bool.{true, cond};
+ghost use mathlib.Core.List.{[]};
+ghost use Prim.Native.Nat.{_≤_, _<_};
+ghost use lib.IntN.{pos, natAbs, _+ℤ_};
+ghost use lib.Signed.{ltZ, leZ};
+ghost use lib.ListN.{length, set};
+ghost use Rattle.checks.specs.Limits.{farthestInstant};
+ghost use Rattle.checks.specs.Outcome.{written};
+ghost use Rattle.samples.specs.Means.{countOf, meansCount, meansInstants, meansFrequencies, recording, second, wholeSecond, eqZ, bin, meanOf, means};
+ghost use Rattle.samples.specs.Sums.{startOf, sumsOf, added, addedIn, meanFrom, asMean, Room, Held, Start, Recorded, instantsOfMeans, frequenciesOfMeans};
+ghost use Rattle.samples.specs.Scans.{Reached, secondAt, NeverFalls, Begins, Run, Next};
+
+// Nanoseconds in a second.
+const SECOND: i64 = 1_000_000_000;
+
+// The earliest and the latest instant that pass check 4, and a number past them.
+const EARLIEST: i64 = -4_000_000_000_000_000_000;
+
+const LATEST: i64 = 4_000_000_000_000_000_000;
+
+const NEVER: i64 = 0x7fff_ffff_ffff_ffff;
+
+// How many means were written, or the refusal (2, 3, 4).
+pub enum Downsampled {
+    Count(usize),
+    Refused(u8),
+}
+
+// What is known of a second's samples so far: how many, the first's instant in nanoseconds, the sum of the offsets from it in
+// microseconds, and the sum of the frequencies in hertz.
+struct Bin {
+    count: usize,
+    base: i64,
+    micros: i64,
+    hertz: f64,
+}
+
+// The mean of a second's samples, in nanoseconds and hertz.
+struct Mean {
+    instant: i64,
+    frequency: f64,
+}
+
+// The whole second of an instant, toward earlier seconds.
+fn second_of(t: i64) -> i64
+    ensures { λ r. ⌜ r ≡ wholeSecond t ⌝ }
+{
+    if t >= 0 {
+        t / SECOND
+    } else {
+        -1 - (-1 - t) / SECOND
+    }
+}
+
+// No sample yet.
+fn no_samples() -> Bin
+    ensures { λ r. ⌜ r ≡ sumsOf [] ⌝ }
+{
+    Bin {
+        count: 0,
+        base: 0,
+        micros: 0,
+        hertz: 0.0,
+    }
+}
+
+// One sample more of the same second; the first gives the base.
+fn add_sample(b: Bin, t: i64, f: f64) -> Bin
+    requires { ⌜ Room b t ⌝ }
+    ensures { λ r. ⌜ r ≡ added b t f ⌝ }
+{
+    if b.count == 0 {
+        return Bin {
+            count: 1,
+            base: t,
+            micros: 0,
+            hertz: b.hertz + f,
+        };
+    }
+    Bin {
+        count: b.count + 1,
+        base: b.base,
+        micros: b.micros + (t - b.base) / 1000,
+        hertz: b.hertz + f,
+    }
+}
+
+// The mean of at least one sample: the base and the mean offset in whole microseconds, toward zero; the mean frequency.
+fn mean_of(b: Bin) -> Mean
+    requires { ⌜ Held b ⌝ }
+    ensures { λ r. ⌜ r ≡ meanFrom b ⌝ }
+{
+    let count = b.count as i64;
+    Mean {
+        instant: b.base + (b.micros / count) * 1000,
+        frequency: b.hertz / float::nearest(count),
+    }
+}
+
+// The first nanosecond of an instant's second.
+fn second_start(t: i64) -> i64
+    requires { ⌜ natAbs t ≤ farthestInstant ⌝ }
+    ensures { λ r. ⌜ r ≡ startOf t ⌝ }
+{
+    second_of(t) * SECOND
+}
+
+// Whether an instant lies in the second that starts there.
+fn in_second(t: i64, start: i64) -> bool
+    requires { ⌜ Start start ⌝ }
+    ensures { λ r. ⌜ r ≡ eqZ (wholeSecond t) (wholeSecond start) ⌝ }
+{
+    if t < start {
+        return false;
+    }
+    t < start + SECOND
+}
+
+// One sample more, if it lies in the second that starts there.
+fn add_if_in(b: Bin, t: i64, f: f64, start: i64) -> Bin
+    requires { ⌜ Start start ⌝ }
+    requires { ⌜ (wholeSecond t ≡ wholeSecond start → Room b t) ⌝ }
+    ensures { λ r. ⌜ r ≡ addedIn (wholeSecond start) b t f ⌝ }
+{
+    if in_second(t, start) {
+        return add_sample(b, t, f);
+    }
+    b
+}
+
+// The sums of those of the samples that lie in one second.
+fn bin_sums(instants: &[i64], frequencies: &[f64], start: i64) -> Bin
+    requires { ⌜ Recorded (now instants) (now frequencies) ⌝ }
+    requires { ⌜ Start start ⌝ }
+    ensures { λ r. ⌜ r ≡ sumsOf (bin (wholeSecond start) (recording (now (instants .entry)) (now (frequencies .entry)))) ⌝ }
+{
+    let mut sums = no_samples();
+    let mut k: usize = 0;
+    while k < instants.len() {
+        sums = add_if_in(sums, instants[k], frequencies[k], start);
+        k += 1;
+    }
+    sums
+}
+
+// The mean of those of the samples that lie in one second, which holds a sample.
+fn bin_mean(instants: &[i64], frequencies: &[f64], start: i64) -> Mean
+    requires { ⌜ Recorded (now instants) (now frequencies) ⌝ }
+    requires { ⌜ Start start ⌝ }
+    requires { ⌜ (bin (wholeSecond start) (recording (now instants) (now frequencies)) ≡ [] → ⊥) ⌝ }
+    ensures { λ r. ⌜ r ≡ asMean (meanOf (bin (wholeSecond start) (recording (now (instants .entry)) (now (frequencies .entry))))) ⌝ }
+{
+    mean_of(bin_sums(instants, frequencies, start))
+}
+
+// Whether the second of b is before that of a; where b itself is not before a it is not, which needs no division.
+fn falls(a: i64, b: i64) -> bool
+    ensures { λ r. ⌜ r ≡ ltZ (wholeSecond b) (wholeSecond a) ⌝ }
+{
+    if a <= b {
+        return false;
+    }
+    second_of(b) < second_of(a)
+}
+
+// Whether the samples' seconds never fall.
+fn never_falls(instants: &[i64]) -> bool
+    requires { ⌜ Reached (now instants) ⌝ }
+    ensures { λ r. ⌜ (r ≡ true → NeverFalls (now (instants .entry))) ⌝ }
+{
+    let mut k: usize = 1;
+    while k < instants.len() {
+        if falls(instants[k - 1], instants[k]) {
+            return false;
+        }
+        k += 1;
+    }
+    true
+}
+
+// Where the run of samples of one second that begins there ends.
+fn run_end(instants: &[i64], from: usize, start: i64) -> usize
+    requires { ⌜ from < length (now instants) ⌝ }
+    requires { ⌜ Reached (now instants) ⌝ }
+    requires { ⌜ Start start ⌝ }
+    requires { ⌜ wholeSecond start ≡ secondAt (now instants) from ⌝ }
+    ensures { λ r. ⌜ Run (now (instants .entry)) from r ⌝ }
+{
+    let mut end = from + 1;
+    while end < instants.len() {
+        if !in_second(instants[end], start) {
+            return end;
+        }
+        end += 1;
+    }
+    end
+}
+
+// The earlier of the least so far and another instant, which counts only at or after the bound.
+fn nearer(least: i64, t: i64, bound: i64) -> i64
+    ensures { λ r. ⌜ r ≡ cond (leZ bound t) (cond (ltZ t least) t least) least ⌝ }
+{
+    if bound <= t {
+        if t < least {
+            return t;
+        }
+        return least;
+    }
+    least
+}
+
+// The least instant at or after the bound, or the number past every instant.
+fn next_instant(instants: &[i64], bound: i64) -> i64
+    requires { ⌜ Reached (now instants) ⌝ }
+    ensures { λ r. ⌜ Next bound (now (instants .entry)) r ⌝ }
+{
+    let mut least: i64 = NEVER;
+    let mut k: usize = 0;
+    while k < instants.len() {
+        least = nearer(least, instants[k], bound);
+        k += 1;
+    }
+    least
+}
+
+// The mean of the run that begins there, written at one place of the two areas; answers where the run ends.
+fn write_run(
+    instants: &[i64],
+    frequencies: &[f64],
+    from: usize,
+    place: usize,
+    mean_instants: &mut [i64],
+    mean_frequencies: &mut [f64],
+) -> usize
+    requires { ⌜ Recorded (now instants) (now frequencies) ⌝ }
+    requires { ⌜ NeverFalls (now instants) ⌝ }
+    requires { ⌜ (from < length (now instants)) × (place < length (now «mean_instants»)) × (place < length (now «mean_frequencies»)) ⌝ }
+    requires { ⌜ Begins (now instants) from ⌝ }
+    ensures { λ r. ⌜ Run (now (instants .entry)) from r ⌝ }
+    ensures { λ r. ⌜ now («mean_instants» .exit) ≡ set (now («mean_instants» .entry)) place (meanOf (bin (secondAt (now (instants .entry)) from) (recording (now (instants .entry)) (now (frequencies .entry)))) .instant) ⌝ }
+    ensures { λ r. ⌜ now («mean_frequencies» .exit) ≡ set (now («mean_frequencies» .entry)) place (meanOf (bin (secondAt (now (instants .entry)) from) (recording (now (instants .entry)) (now (frequencies .entry)))) .frequency) ⌝ }
+{
+    let start = second_start(instants[from]);
+    let end = run_end(instants, from, start);
+    let mean = bin_mean(&instants[from..end], &frequencies[from..end], start);
+    let instant = mean.instant;
+    let frequency = mean.frequency;
+    mean_instants[place] = instant;
+    mean_frequencies[place] = frequency;
+    end
+}
+
+// The mean of the second of an instant, written at one place of the two areas; answers the least instant of a later second.
+fn write_second(
+    instants: &[i64],
+    frequencies: &[f64],
+    t: i64,
+    place: usize,
+    mean_instants: &mut [i64],
+    mean_frequencies: &mut [f64],
+) -> i64
+    requires { ⌜ Recorded (now instants) (now frequencies) ⌝ }
+    requires { ⌜ natAbs t ≤ farthestInstant ⌝ }
+    requires { ⌜ (place < length (now «mean_instants»)) × (place < length (now «mean_frequencies»)) ⌝ }
+    requires { ⌜ (bin (wholeSecond t) (recording (now instants) (now frequencies)) ≡ [] → ⊥) ⌝ }
+    ensures { λ r. ⌜ Next (startOf t +ℤ pos second) (now (instants .entry)) r ⌝ }
+    ensures { λ r. ⌜ now («mean_instants» .exit) ≡ set (now («mean_instants» .entry)) place (meanOf (bin (wholeSecond t) (recording (now (instants .entry)) (now (frequencies .entry)))) .instant) ⌝ }
+    ensures { λ r. ⌜ now («mean_frequencies» .exit) ≡ set (now («mean_frequencies» .entry)) place (meanOf (bin (wholeSecond t) (recording (now (instants .entry)) (now (frequencies .entry)))) .frequency) ⌝ }
+{
+    let start = second_start(t);
+    let mean = bin_mean(instants, frequencies, start);
+    let instant = mean.instant;
+    let frequency = mean.frequency;
+    mean_instants[place] = instant;
+    mean_frequencies[place] = frequency;
+    next_instant(instants, start + SECOND)
+}
+
+// The means run by run, where the seconds never fall: each sample is read a fixed number of times.
+fn write_runs(
+    instants: &[i64],
+    frequencies: &[f64],
+    mean_instants: &mut [i64],
+    mean_frequencies: &mut [f64],
+) -> usize
+    requires { ⌜ Recorded (now instants) (now frequencies) ⌝ }
+    requires { ⌜ NeverFalls (now instants) ⌝ }
+    requires { ⌜ (length (now instants) ≤ length (now «mean_instants»)) × (length (now instants) ≤ length (now «mean_frequencies»)) ⌝ }
+    ensures { λ r. ⌜ r ≡ length (means (recording (now (instants .entry)) (now (frequencies .entry)))) ⌝ }
+    ensures { λ r. ⌜ now («mean_instants» .exit) ≡ written (instantsOfMeans (now (instants .entry)) (now (frequencies .entry))) (now («mean_instants» .entry)) ⌝ }
+    ensures { λ r. ⌜ now («mean_frequencies» .exit) ≡ written (frequenciesOfMeans (now (instants .entry)) (now (frequencies .entry))) (now («mean_frequencies» .entry)) ⌝ }
+{
+    let mut count: usize = 0;
+    let mut from: usize = 0;
+    while from < instants.len() {
+        from = write_run(
+            instants,
+            frequencies,
+            from,
+            count,
+            &mut *mean_instants,
+            &mut *mean_frequencies,
+        );
+        count += 1;
+    }
+    count
+}
+
+// The means second by second, in any order of the samples: each next second is looked for among all of them.
+fn write_seconds(
+    instants: &[i64],
+    frequencies: &[f64],
+    mean_instants: &mut [i64],
+    mean_frequencies: &mut [f64],
+) -> usize
+    requires { ⌜ Recorded (now instants) (now frequencies) ⌝ }
+    requires { ⌜ (length (now instants) ≤ length (now «mean_instants»)) × (length (now instants) ≤ length (now «mean_frequencies»)) ⌝ }
+    ensures { λ r. ⌜ r ≡ length (means (recording (now (instants .entry)) (now (frequencies .entry)))) ⌝ }
+    ensures { λ r. ⌜ now («mean_instants» .exit) ≡ written (instantsOfMeans (now (instants .entry)) (now (frequencies .entry))) (now («mean_instants» .entry)) ⌝ }
+    ensures { λ r. ⌜ now («mean_frequencies» .exit) ≡ written (frequenciesOfMeans (now (instants .entry)) (now (frequencies .entry))) (now («mean_frequencies» .entry)) ⌝ }
+{
+    let mut count: usize = 0;
+    let mut t = next_instant(instants, EARLIEST);
+    while t <= LATEST {
+        t = write_second(
+            instants,
+            frequencies,
+            t,
+            count,
+            &mut *mean_instants,
+            &mut *mean_frequencies,
+        );
+        count += 1;
+    }
+    count
+}
+
+// The means of samples that pass the checks, at the front of the two areas, seconds rising; answers how many there are.
+pub(crate) fn write_means(
+    instants: &[i64],
+    frequencies: &[f64],
+    mean_instants: &mut [i64],
+    mean_frequencies: &mut [f64],
+) -> usize
+    requires { ⌜ Recorded (now instants) (now frequencies) ⌝ }
+    requires { ⌜ (length (now instants) ≤ length (now «mean_instants»)) × (length (now instants) ≤ length (now «mean_frequencies»)) ⌝ }
+    ensures { λ r. ⌜ r ≡ length (means (recording (now (instants .entry)) (now (frequencies .entry)))) ⌝ }
+    ensures { λ r. ⌜ now («mean_instants» .exit) ≡ written (instantsOfMeans (now (instants .entry)) (now (frequencies .entry))) (now («mean_instants» .entry)) ⌝ }
+    ensures { λ r. ⌜ now («mean_frequencies» .exit) ≡ written (frequenciesOfMeans (now (instants .entry)) (now (frequencies .entry))) (now («mean_frequencies» .entry)) ⌝ }
+{
+    if never_falls(instants) {
+        return write_runs(instants, frequencies, mean_instants, mean_frequencies);
+    }
+    write_seconds(instants, frequencies, mean_instants, mean_frequencies)
+}
+
+// The means of the samples at the front of the two areas, seconds rising; the rest of each area stays, and a refusal writes nothing.
+pub fn downsample_data(
+    instants: &[i64],
+    frequencies: &[f64],
+    mean_instants: &mut [i64],
+    mean_frequencies: &mut [f64],
+) -> Downsampled
+    ensures { λ r. ⌜ (countOf r ≡ meansCount (now (instants .entry)) (now (frequencies .entry)) (now («mean_instants» .entry)) (now («mean_frequencies» .entry))) × (now («mean_instants» .exit) ≡ meansInstants (now (instants .entry)) (now (frequencies .entry)) (now («mean_instants» .entry)) (now («mean_frequencies» .entry))) × (now («mean_frequencies» .exit) ≡ meansFrequencies (now (instants .entry)) (now (frequencies .entry)) (now («mean_instants» .entry)) (now («mean_frequencies» .entry))) ⌝ }
+{
+    let refusal = checks::refuse_means(instants, frequencies, mean_instants, mean_frequencies);
+    if refusal != 0 {
+        return Downsampled::Refused(refusal);
+    }
+    Downsampled::Count(write_means(instants, frequencies, mean_instants, mean_frequencies))
+}
