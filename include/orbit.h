@@ -3,18 +3,43 @@
  * Link with target/staticlib/liborbit_abi.a, made by `rt staticlib orbit_abi`.
  *
  * Every function takes any numbers. Those that can refuse answer the refusal's number, 0 where they answered; results go through the
- * pointers at the end and stay untouched on a refusal. A pointer is to as many doubles as its parameter says, and never null; areas
- * that are written do not overlap any other argument.
+ * pointers at the end and stay untouched on a refusal. A pointer is to as many numbers as its parameter says, or as the count after it
+ * says, and never null; areas that are written do not overlap any other argument.
+ *
+ * A table of coordinates is its instants, strictly rising, and its positions: x, y, z for each instant, in metres, earth-centred and
+ * earth-fixed, so position_count is three times instant_count. A recording is its instants and as many frequencies, in hertz. Slices
+ * hold bare numbers; an instant in one is a count of nanoseconds.
  *
  * Each unit is a type of its own with one field, so that kilometres cannot stand where metres are meant: orbit_metres m = {1500.0};
  * On x86-64 such a struct passes as the bare number does.
  *
- * Refusals of the functions below:
- *   8  a column's pivot has a magnitude below 1e-12: the matrix has no inverse that could be trusted.
+ * Refusals. The checks are made in this order, and the first that fails gives the number.
+ *
+ *    1  What is wrong: fewer than 10 or more than 4,096 coordinates, or not three position numbers for each instant.
+ *       What to do: lend a part of the table with 10 to 4,096 coordinates, and all three numbers of each.
+ *    2  What is wrong: no sample, more than 4,096, or not one frequency for each instant.
+ *       What to do: cut the recording into parts of at most 4,096 samples, each instant with its frequency.
+ *    3  What is wrong: an area for the means is shorter than the recording.
+ *       What to do: lend two areas at least as long as the recording.
+ *    4  What is wrong: an instant is more than 4,000,000,000,000,000,000 ns (some 126 years) from 1970-01-01.
+ *       What to do: look for a wrong unit or a damaged instant; instants are nanoseconds.
+ *    5  What is wrong: the coordinates' instants do not strictly rise.
+ *       What to do: sort the table, and strike out coordinates that stand twice.
+ *    6  What is wrong: a coordinate or the observer is not finite, has a component over 100,000,000 m, or all three under 1,000,000 m.
+ *       What to do: give metres, not kilometres; strike out blank entries.
+ *    7  What is wrong: a sample's frequency is not finite, or the centre frequency not finite or not above zero.
+ *       What to do: strike out the sample, or set the centre frequency, in hertz.
+ *    8  What is wrong: a column's pivot has a magnitude below 1e-12, so the matrix has no inverse that could be trusted.
+ *       What to do: look for repeated or missing nodes; in a table, for coordinates that lie too close together or too far apart.
+ *    9  What is wrong: no slope of the frequency is below zero, so the recording shows no approach.
+ *       What to do: take a recording that holds the closest approach, with at least three samples some milliseconds apart.
+ *   10  What is wrong: no shift of the clock fits the recording.
+ *       What to do: look whether recording, table, observer and centre frequency belong to the same pass.
  */
 #ifndef ORBIT_H
 #define ORBIT_H
 
+#include <stddef.h>
 #include <stdint.h>
 
 #ifdef __cplusplus
@@ -41,6 +66,42 @@ void orbit_evaluate_chebyshev(const double c[10], double tau, double *value, dou
 
 /* The inverse of a ten by ten matrix, both row after row: 0, or 8 and `inverse` untouched. */
 uint8_t orbit_invert_matrix_10(const double rows[100], double inverse[100]);
+
+/* The Chebyshev model of the ten coordinates about an instant, into 32 numbers: the two end times t0 and t9 in seconds, then ten
+ * coefficients each of x, y and z in metres. Refuses by 1, 4, 5, 6, 8. */
+uint8_t orbit_get_chebyshev_model(const int64_t *instants, size_t instant_count, const double *positions, size_t position_count,
+                                  orbit_nanoseconds instant, double model[32]);
+
+/* Position (x, y, z in metres) and velocity (x, y, z in metres for each second) by such a model at an instant. Refuses by 4. */
+uint8_t orbit_evaluate(const double model[32], orbit_nanoseconds instant, double out[6]);
+
+/* Position and velocity, as above, by a table at an instant; outside the table they are extrapolated. Refuses by 1, 4, 5, 6, 8. */
+uint8_t orbit_propagate_ecef(const int64_t *instants, size_t instant_count, const double *positions, size_t position_count,
+                             orbit_nanoseconds instant, double out[6]);
+
+/* The instant at which the satellite is closest to the observer at (ox, oy, oz), to the second, within 51 minutes of an instant.
+ * Refuses by 1, 4, 5, 6. */
+uint8_t orbit_find_pca_time(const int64_t *instants, size_t instant_count, const double *positions, size_t position_count,
+                            orbit_metres ox, orbit_metres oy, orbit_metres oz, orbit_nanoseconds instant, orbit_nanoseconds *found);
+
+/* The means of a recording, one for each second that holds a sample, seconds rising, at the front of the two areas; the rest of each stays.
+ * Their number goes into count. Refuses by 2, 3, 4. */
+uint8_t orbit_downsample_data(const int64_t *instants, size_t instant_count, const double *frequencies, size_t frequency_count,
+                              int64_t *mean_instants, size_t mean_instant_count, double *mean_frequencies, size_t mean_frequency_count,
+                              uint64_t *count);
+
+/* The instant of the sample about which a recording's frequency falls fastest, the first of equals. Refuses by 2, 4, 9. */
+uint8_t orbit_estimate_measured_pca_time(const int64_t *instants, size_t instant_count, const double *frequencies, size_t frequency_count,
+                                         orbit_nanoseconds *found);
+
+/* The steepest slope of a recording's frequency that is at least -120, in hertz for each second; 0.0 where none is below zero.
+ * Refuses by 2, 4. */
+uint8_t orbit_steepest_slope(const int64_t *instants, size_t instant_count, const double *frequencies, size_t frequency_count,
+                             double *slope);
+
+/* The distance to the satellite at its closest, from the centre frequency and the steepest slope in hertz for each second;
+ * 2,000,000 m where the slope's magnitude is at most 0.1 or NaN. */
+orbit_metres orbit_estimate_slant_range(orbit_hertz f0, double slope);
 
 #ifdef __cplusplus
 }

@@ -1,8 +1,10 @@
--- A matrix as C lends it: a hundred doubles, row after row.
+-- What C lends and gets: a matrix of a hundred doubles, row after row, and an outcome as the refusal's number and what a lent area holds.
+-- Assumes nothing.
 use Prim.Native.Nat.{ℕ, _+_, _*_}
 use mathlib.Core.List.{List}
 use lib.ListN.{getD}
 use lib.Ieee.{Float, nan}
+use Rattle.checks.specs.Outcome as Outcomes
 use Rattle.chebyshev.specs.Lists.{listOf}
 use Rattle.chebyshev.specs.Inverse.{Row, Matrix, order, Outcome, singular, inverse, flat}
 
@@ -17,3 +19,15 @@ rowsIn xs = listOf (rowAt xs) order 0
 abbrev pub inverseArea : Outcome → Row → Row
 inverseArea singular old = old
 inverseArea (inverse v) old = flat v
+
+-- ---- an outcome as C gets it
+
+-- the refusal's number, 0 where the call answered
+abbrev pub refusalIn : {A : Type 0} → Outcomes.Outcome A → ℕ
+refusalIn (Outcomes.refused n) = n
+refusalIn (Outcomes.answered a) = 0
+
+-- an area holds the answer's numbers, or what it held where the call is refused
+abbrev pub areaOf : {A B : Type 0} → (A → B) → Outcomes.Outcome A → B → B
+areaOf f (Outcomes.refused n) old = old
+areaOf f (Outcomes.answered a) old = f a

@@ -1,0 +1,2 @@
+-- What the proofs of orbit_abi share. Assumes nothing.
+mod Outcomes

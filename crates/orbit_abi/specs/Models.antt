@@ -1,0 +1,34 @@
+-- A model as C lends it: 32 doubles, t0, t9, then ten coefficients each of x, y and z; and a motion: position and velocity, x, y, z each.
+-- Assumes nothing.
+use Prim.Native.Nat.{ℕ, _+_, _-_}
+use mathlib.Core.Bool.{cond}
+use mathlib.Core.List.{List, [], _∷_}
+use lib.Dec.{ltb}
+use lib.ListN.{getD}
+use lib.Ieee.{Float, nan}
+use Rattle.chebyshev.specs.Lists.{listOf}
+use Rattle.units.specs.declared.Metres.{Metres}
+use Rattle.units.specs.declared.Observer.{Observer}
+use Rattle.orbit.specs.declared.window.ChebyshevOrbit.{ChebyshevOrbit}
+use Rattle.orbit.specs.Propagation.{Motion}
+
+abbrev pub modelNumber : ChebyshevOrbit → ℕ → Float
+modelNumber m k =
+    cond (ltb k 1) (m .t0 .0) (cond (ltb k 2) (m .t9 .0) (cond (ltb k 12) (getD (m .cx) (k - 2) nan) (cond (ltb k 22) (getD (m .cy) (k - 12) nan) (getD (m .cz) (k - 22) nan))))
+
+abbrev pub modelNumbers : ChebyshevOrbit → List Float
+modelNumbers m = listOf (modelNumber m) 32 0
+
+-- ten numbers from one on, and the model that 32 numbers stand for
+abbrev pub rowFrom : List Float → ℕ → List Float
+rowFrom xs from = listOf (λ k. getD xs (from + k) nan) 10 0
+
+abbrev pub modelIn : List Float → ChebyshevOrbit
+modelIn xs = record { t0 = record { 0 = getD xs 0 nan }; t9 = record { 0 = getD xs 1 nan }; cx = rowFrom xs 2; cy = rowFrom xs 12; cz = rowFrom xs 22 }
+
+abbrev pub motionNumbers : Motion → List Float
+motionNumbers m = m .position .x ∷ m .position .y ∷ m .position .z ∷ m .velocity .x ∷ m .velocity .y ∷ m .velocity .z ∷ []
+
+-- the observer at three lengths in metres
+abbrev pub observerOf : Float → Float → Float → Observer
+observerOf x y z = record { x = record { 0 = x }; y = record { 0 = y }; z = record { 0 = z } }

@@ -1,0 +1,165 @@
+// The Chebyshev model, position and velocity, and the closest approach.
+ghost use mathlib.Core.Path.{_≡_};
+ghost use Prim.Native.Nat.{_<_, _≤_};
+ghost use lib.IntN.{ℤ};
+ghost use Rattle.orbit.specs.Window.{chebyshevModel};
+ghost use Rattle.orbit.specs.Propagation.{evaluation, propagation, motionIn};
+ghost use Rattle.orbit.specs.Closest.{closestApproach};
+ghost use Rattle.orbit_abi.specs.Areas.{refusalIn, areaOf};
+ghost use Rattle.orbit_abi.specs.Models.{modelNumber, modelNumbers, rowFrom, modelIn, motionNumbers, observerOf};
+use orbit::ChebyshevOrbit;
+use orbit::ClosestApproach;
+use orbit::Propagation;
+use units::Metres;
+use units::Nanoseconds;
+use units::Observer;
+use units::Seconds;
+
+// Number k of a model: its end times, then the coefficients of x, y and z.
+fn model_number(orbit: ChebyshevOrbit, k: usize) -> f64
+    requires { ⌜ k < 32 ⌝ }
+    ensures { λ r. ⌜ r ≡ modelNumber orbit k ⌝ }
+{
+    if k < 1 {
+        return orbit.t0.0;
+    }
+    if k < 2 {
+        return orbit.t9.0;
+    }
+    if k < 12 {
+        let cx = orbit.cx;
+        return cx[k - 2];
+    }
+    if k < 22 {
+        let cy = orbit.cy;
+        return cy[k - 12];
+    }
+    let cz = orbit.cz;
+    cz[k - 22]
+}
+
+// The 32 numbers of a model.
+fn model_numbers(orbit: ChebyshevOrbit) -> [f64; 32]
+    ensures { λ r. ⌜ r ≡ modelNumbers orbit ⌝ }
+{
+    let mut numbers = [0.0; 32];
+    for k in 0..32 {
+        numbers[k] = model_number(orbit, k);
+    }
+    numbers
+}
+
+// Ten of the 32 numbers, from one on.
+fn row_from(numbers: &[f64; 32], from: usize) -> [f64; 10]
+    requires { ⌜ from ≤ 22 ⌝ }
+    ensures { λ r. ⌜ r ≡ rowFrom (now (numbers .entry)) from ⌝ }
+{
+    let mut row = [0.0; 10];
+    for k in 0..10 {
+        row[k] = numbers[from + k];
+    }
+    row
+}
+
+// The model with these 32 numbers.
+fn model_of(numbers: &[f64; 32]) -> ChebyshevOrbit
+    ensures { λ r. ⌜ r ≡ modelIn (now (numbers .entry)) ⌝ }
+{
+    let cx = row_from(numbers, 2);
+    let cy = row_from(numbers, 12);
+    let cz = row_from(numbers, 22);
+    ChebyshevOrbit {
+        t0: Seconds(numbers[0]),
+        t9: Seconds(numbers[1]),
+        cx,
+        cy,
+        cz,
+    }
+}
+
+// The model of the window about an instant in nanoseconds: t0, t9, cx, cy, cz.
+#[no_mangle]
+pub extern "C" fn orbit_get_chebyshev_model(
+    instants: &[i64],
+    positions: &[f64],
+    instant: i64,
+    model: &mut [f64; 32],
+) -> u8
+    ensures { λ r. ⌜ (r ≡ refusalIn (chebyshevModel (now (instants .entry)) (now (positions .entry)) instant)) × (now (model .exit) ≡ areaOf modelNumbers (chebyshevModel (now (instants .entry)) (now (positions .entry)) instant) (now (model .entry))) ⌝ }
+{
+    let m = orbit::get_chebyshev_model(instants, positions, Nanoseconds(instant));
+    let refusal = m.refusal;
+    if refusal == 0 {
+        let o = m.orbit;
+        let numbers = model_numbers(o);
+        *model = numbers;
+    }
+    refusal
+}
+
+// A motion's six numbers into the area, or the refusal.
+fn motion_into(found: Propagation, out: &mut [f64; 6]) -> u8
+    ensures { λ r. ⌜ (r ≡ refusalIn (motionIn found)) × (now (out .exit) ≡ areaOf motionNumbers (motionIn found) (now (out .entry))) ⌝ }
+{
+    match found {
+        Propagation::At(p, v) => {
+            let six = [p.x, p.y, p.z, v.x, v.y, v.z];
+            *out = six;
+            0
+        }
+        Propagation::Refused(refusal) => refusal,
+    }
+}
+
+// Position (metres) and velocity (metres for each second) by a model at an instant in nanoseconds: x, y, z each.
+#[no_mangle]
+pub extern "C" fn orbit_evaluate(model: &[f64; 32], instant: i64, out: &mut [f64; 6]) -> u8
+    ensures { λ r. ⌜ (r ≡ refusalIn (evaluation (modelIn (now (model .entry))) instant)) × (now (out .exit) ≡ areaOf motionNumbers (evaluation (modelIn (now (model .entry))) instant) (now (out .entry))) ⌝ }
+{
+    motion_into(orbit::evaluate(model_of(model), Nanoseconds(instant)), out)
+}
+
+// Position (metres) and velocity (metres for each second) by a table at an instant in nanoseconds: x, y, z each.
+#[no_mangle]
+pub extern "C" fn orbit_propagate_ecef(
+    instants: &[i64],
+    positions: &[f64],
+    instant: i64,
+    out: &mut [f64; 6],
+) -> u8
+    ensures { λ r. ⌜ (r ≡ refusalIn (propagation (now (instants .entry)) (now (positions .entry)) instant)) × (now (out .exit) ≡ areaOf motionNumbers (propagation (now (instants .entry)) (now (positions .entry)) instant) (now (out .entry))) ⌝ }
+{
+    motion_into(
+        orbit::propagate_ecef(instants, positions, Nanoseconds(instant)),
+        out,
+    )
+}
+
+// The instant in nanoseconds of the closest approach to an observer (metres) about an instant in nanoseconds.
+#[no_mangle]
+pub extern "C" fn orbit_find_pca_time(
+    instants: &[i64],
+    positions: &[f64],
+    ox: f64,
+    oy: f64,
+    oz: f64,
+    instant: i64,
+    found: &mut i64,
+) -> u8
+    ensures { λ r. ⌜ (r ≡ refusalIn (closestApproach (now (instants .entry)) (now (positions .entry)) (observerOf ox oy oz) instant)) × (now (found .exit) ≡ areaOf (λ (t : ℤ). t) (closestApproach (now (instants .entry)) (now (positions .entry)) (observerOf ox oy oz) instant) (now (found .entry))) ⌝ }
+{
+    let observer = Observer {
+        x: Metres(ox),
+        y: Metres(oy),
+        z: Metres(oz),
+    };
+    let closest = orbit::find_pca_time(instants, positions, observer, Nanoseconds(instant));
+    match closest {
+        ClosestApproach::At(t) => {
+            let nanoseconds = t.0;
+            *found = nanoseconds;
+            0
+        }
+        ClosestApproach::Refused(refusal) => refusal,
+    }
+}

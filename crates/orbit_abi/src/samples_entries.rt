@@ -1,0 +1,78 @@
+// The one-second means, the measured approach, the steepest slope and the slant range.
+ghost use mathlib.Core.Path.{_≡_};
+ghost use Prim.Native.Nat.{ℕ};
+ghost use lib.IntN.{ℤ};
+ghost use lib.Ieee.{Float};
+ghost use Rattle.samples.specs.Approach.{measuredApproach, steepest};
+ghost use Rattle.samples.specs.Means.{meansCount, meansInstants, meansFrequencies};
+ghost use Rattle.samples.specs.Slant.{slantRange};
+ghost use Rattle.orbit_abi.specs.Areas.{refusalIn, areaOf};
+use samples::Approach;
+use samples::Downsampled;
+use samples::Slope;
+use units::Hertz;
+
+// The means of the samples at the front of the two areas, seconds rising, and their count; the rest of each area stays, and a refusal writes nothing.
+#[no_mangle]
+pub extern "C" fn orbit_downsample_data(
+    instants: &[i64],
+    frequencies: &[f64],
+    mean_instants: &mut [i64],
+    mean_frequencies: &mut [f64],
+    count: &mut u64,
+) -> u8
+    ensures { λ r. ⌜ (r ≡ refusalIn (meansCount (now (instants .entry)) (now (frequencies .entry)) (now («mean_instants» .entry)) (now («mean_frequencies» .entry)))) × (now (count .exit) ≡ areaOf (λ (n : ℕ). n) (meansCount (now (instants .entry)) (now (frequencies .entry)) (now («mean_instants» .entry)) (now («mean_frequencies» .entry))) (now (count .entry))) × (now («mean_instants» .exit) ≡ meansInstants (now (instants .entry)) (now (frequencies .entry)) (now («mean_instants» .entry)) (now («mean_frequencies» .entry))) × (now («mean_frequencies» .exit) ≡ meansFrequencies (now (instants .entry)) (now (frequencies .entry)) (now («mean_instants» .entry)) (now («mean_frequencies» .entry))) ⌝ }
+{
+    let means = samples::downsample_data(instants, frequencies, mean_instants, mean_frequencies);
+    match means {
+        Downsampled::Count(n) => {
+            *count = n as u64;
+            0
+        }
+        Downsampled::Refused(refusal) => refusal,
+    }
+}
+
+// The instant in nanoseconds of the middle sample of the first least slope below zero; the frequencies are in hertz.
+#[no_mangle]
+pub extern "C" fn orbit_estimate_measured_pca_time(
+    instants: &[i64],
+    frequencies: &[f64],
+    found: &mut i64,
+) -> u8
+    ensures { λ r. ⌜ (r ≡ refusalIn (measuredApproach (now (instants .entry)) (now (frequencies .entry)))) × (now (found .exit) ≡ areaOf (λ (t : ℤ). t) (measuredApproach (now (instants .entry)) (now (frequencies .entry))) (now (found .entry))) ⌝ }
+{
+    let measured = samples::estimate_measured_pca_time(instants, frequencies);
+    match measured {
+        Approach::At(t) => {
+            let nanoseconds = t.0;
+            *found = nanoseconds;
+            0
+        }
+        Approach::Refused(refusal) => refusal,
+    }
+}
+
+// The steepest slope of at least −120, in hertz for each second; 0.0 where none is below zero.
+#[no_mangle]
+pub extern "C" fn orbit_steepest_slope(instants: &[i64], frequencies: &[f64], slope: &mut f64) -> u8
+    ensures { λ r. ⌜ (r ≡ refusalIn (steepest (now (instants .entry)) (now (frequencies .entry)))) × (now (slope .exit) ≡ areaOf (λ (s : Float). s) (steepest (now (instants .entry)) (now (frequencies .entry))) (now (slope .entry))) ⌝ }
+{
+    let least = samples::steepest_slope(instants, frequencies);
+    match least {
+        Slope::Steepest(s) => {
+            *slope = s;
+            0
+        }
+        Slope::Refused(refusal) => refusal,
+    }
+}
+
+// The distance in metres to the satellite at its closest, from the centre frequency in hertz and the steepest slope in hertz for each second.
+#[no_mangle]
+pub extern "C" fn orbit_estimate_slant_range(f0: f64, slope: f64) -> f64
+    ensures { λ r. ⌜ r ≡ slantRange f0 slope ⌝ }
+{
+    let range = samples::estimate_slant_range(Hertz(f0), slope);
+    range.0
+}
