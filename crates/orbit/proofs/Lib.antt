@@ -1,6 +1,17 @@
--- What the proofs of orbit share.
+-- What the proofs of orbit share, and the laws and theorems that a reader cites (`pub`).
 mod Searches
 mod Tables
 mod Models
 mod Offsets
 mod Ranges
+mod Totals
+mod Shifts
+mod Trials
+mod Updates
+pub mod FirstLeast
+pub mod Stages
+pub mod Demand3
+pub mod MixedSeconds
+mod Finish
+mod Centre
+mod Middles

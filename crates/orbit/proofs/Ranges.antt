@@ -5,7 +5,7 @@ use mathlib.Core.List.{List}
 use Prim.Native.Nat.{ℕ, zero, suc, _+_, _-_, _*_, _≤_, _<_}
 use native.Mathlib.Omega.{arith}
 use native.Mathlib.Nat.{le-trans, mul-le-mul-left}
-use lib.IntN.{ℤ, pos, natAbs, _+ℤ_}
+use lib.IntN.{ℤ, pos, negsuc, natAbs, _+ℤ_}
 use lib.Ieee.{Float, lt}
 use Rattle.units.specs.declared.Position.{Position}
 use Rattle.units.specs.declared.Velocity.{Velocity}
@@ -15,8 +15,8 @@ use Rattle.orbit.specs.declared.closest.Nearest.{Nearest}
 use Rattle.orbit.specs.declared.propagation.Propagation.{Propagation}
 use Rattle.orbit.specs.declared.propagation.Propagation.the-variants.{At, Refused}
 use Rattle.orbit.specs.Propagation.{Motion, motionIn, propagated}
-use Rattle.orbit.specs.Closest.{squaredRange, later, nearer, seekNearest}
-use Rattle.orbit.proofs.Offsets.{offset-small}
+use Rattle.orbit.specs.Closest.{largest, squaredRange, later, nearer, seekNearest, byMinutes, bySeconds}
+use Rattle.orbit.proofs.Offsets.{offset-small, before-small}
 
 pub nearer-refused : (o : Observer) (r : Propagation) (q : Outcome Motion) (n : ℕ) (offset : ℤ) (best : Nearest) → motionIn r ≡ q → r ≡ Refused n → best ≡ nearer o q offset best
 nearer-refused o r q n offset best e er = ap (λ (x : Outcome Motion). nearer o x offset best) (sym (ap motionIn er) ∙ e)
@@ -72,3 +72,13 @@ module _ (tolerance : Float) (instants : List ℤ) (positions : List Float) (o :
       seek-small n (k + 1) first step (nearer o (propagated tolerance instants positions (later around offset)) offset best) m
       (nearer-small (propagated tolerance instants positions (later around offset)) offset best m (le-trans (offset-small first (step * k)) (omega arith)) h)
       (subst (λ (x : ℕ). natAbs first + step * x ≤ m) (sym e) l)
+
+  -- the offsets of the two stages are at most 10,000 s
+  pub minutes-small : natAbs (byMinutes tolerance instants positions o around .offset) ≤ 9060
+  minutes-small = seek-small 101 0 (negsuc 2999) 60 (record { range = largest; offset = pos 0 }) 9060 (omega arith) (omega arith)
+
+  pub seconds-small : natAbs (bySeconds tolerance instants positions o around .offset) ≤ 10000
+  seconds-small =
+      let centre = byMinutes tolerance instants positions o around .offset in
+      let f = before-small centre 9060 minutes-small in
+      seek-small 121 0 (centre +ℤ negsuc 59) 1 (record { range = largest; offset = centre }) 10000 (le-trans minutes-small (omega arith)) (omega (arith, f))

@@ -3,3 +3,7 @@ pub mod Table
 pub mod Window
 pub mod Propagation
 pub mod Closest
+pub mod Fitting
+pub mod Fit
+pub mod Pass
+pub mod State

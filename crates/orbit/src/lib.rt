@@ -1,10 +1,17 @@
 // The tabulated orbit: the Chebyshev model about an instant, position and velocity, and the closest approach.
 mod closest;
+mod fit;
+mod passes;
 mod propagation;
+mod residuals;
 mod window;
 
 pub use closest::ClosestApproach;
 pub use closest::find_pca_time;
+pub use fit::Fitted;
+pub use fit::Report;
+pub use fit::fit_satellite;
+pub use passes::pass;
 pub use propagation::Propagation;
 pub use propagation::evaluate;
 pub use propagation::propagate_ecef;

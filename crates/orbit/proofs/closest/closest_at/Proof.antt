@@ -12,7 +12,7 @@ use mir.ValLaws.{toZ-ofZ}
 use Rattle.orbit.specs.declared.closest.Nearest.{Nearest}
 use Rattle.orbit.specs.Closest.{largest, later, seekNearest, byMinutes, bySeconds}
 use Rattle.orbit.proofs.Offsets.{back, small-fits, before-small}
-use Rattle.orbit.proofs.Ranges.{seek-small}
+use Rattle.orbit.proofs.Ranges.{minutes-small, seconds-small}
 use Rattle.orbit.proofs.closest.closest_at.Statement.{statement}
 use Rattle.orbit.proofs.closest.closest_at.Tie as tie
 
@@ -31,13 +31,8 @@ minutes-are c =
     c .seek-nearest .ensures
     ∙ ap (λ (x : ℤ). seekNearest (a .tolerance) (a .instants .now) (a .positions .now) (a .observer) x 101 0 (negsuc 2999) 60 (record { range = largest; offset = pos 0 })) (toZ-ofZ w64 (a .around) (s .fits .around))
 
-minutes-small : (s : tie.Start) → natAbs (minutes-of s .offset) ≤ 9060
-minutes-small s =
-    let a = s .args in
-    seek-small (a .tolerance) (a .instants .now) (a .positions .now) (a .observer) (a .around) 101 0 (negsuc 2999) 60 (record { range = largest; offset = pos 0 }) 9060 (omega arith) (omega arith)
-
 centre-small : (c : tie.After-seek-nearest) → natAbs (c .seek-nearest .result .offset) ≤ 9060
-centre-small c = subst (λ (n : Nearest). natAbs (n .offset) ≤ 9060) (sym (minutes-are c)) (minutes-small (c .before .before))
+centre-small c = subst (λ (n : Nearest). natAbs (n .offset) ≤ 9060) (sym (minutes-are c)) (let s = c .before .before in minutes-small (s .args .tolerance) (s .args .instants .now) (s .args .positions .now) (s .args .observer) (s .args .around))
 
 centre-is : (c : tie.After-seek-nearest) → back (c .seek-nearest .result .offset) ≡ c .seek-nearest .result .offset
 centre-is c = toZ-ofZ w64 (c .seek-nearest .result .offset) (small-fits (c .seek-nearest .result .offset) (le-trans (centre-small c) (omega arith)))
@@ -67,15 +62,8 @@ seconds-are c =
     ∙ ap (λ (z : ℤ). seekNearest (a .tolerance) (a .instants .now) (a .positions .now) (a .observer) (a .around) 121 0 (first-of at) 1 (record { range = largest; offset = z })) (centre-is at)
     ∙ ap (λ (n : Nearest). seekNearest (a .tolerance) (a .instants .now) (a .positions .now) (a .observer) (a .around) 121 0 (n .offset +ℤ negsuc 59) 1 (record { range = largest; offset = n .offset })) (minutes-are at)
 
-seconds-small : (s : tie.Start) → natAbs (seconds-of s .offset) ≤ 10000
-seconds-small s =
-    let a = s .args in
-    let centre = minutes-of s .offset in
-    let f = before-small centre 9060 (minutes-small s) in
-    seek-small (a .tolerance) (a .instants .now) (a .positions .now) (a .observer) (a .around) 121 0 (centre +ℤ negsuc 59) 1 (record { range = largest; offset = centre }) 10000 (le-trans (minutes-small s) (omega arith)) (omega (arith, f))
-
 found-small : (c : tie.After-seek-nearest2) → natAbs (c .seek-nearest2 .result .offset) ≤ 10000
-found-small c = subst (λ (n : Nearest). natAbs (n .offset) ≤ 10000) (sym (seconds-are c)) (seconds-small (c .before .before .before .before))
+found-small c = subst (λ (n : Nearest). natAbs (n .offset) ≤ 10000) (sym (seconds-are c)) (let s = c .before .before .before .before in seconds-small (s .args .tolerance) (s .args .instants .now) (s .args .positions .now) (s .args .observer) (s .args .around))
 
 found-is : (c : tie.After-seek-nearest2) → back (c .seek-nearest2 .result .offset) ≡ c .seek-nearest2 .result .offset
 found-is c = toZ-ofZ w64 (c .seek-nearest2 .result .offset) (small-fits (c .seek-nearest2 .result .offset) (found-small c))

@@ -1,0 +1,67 @@
+-- The measured approach of samples, or else their middle, is one of their instants; the means of a recording are samples that pass their checks. Assumes nothing.
+use mathlib.Core.Path.{_≡_, refl, sym, ap, ap₂, _∙_, subst}
+use mathlib.Core.Bool.{Bool, true, false, cond}
+use mathlib.Core.List.{List, [], _∷_, _++_, map}
+use Prim.Native.Nat.{ℕ, zero, suc, _+_, _/_, _≤_, _<_}
+use native.Mathlib.Omega.{arith}
+use lib.IntN.{ℤ, pos, natAbs}
+use lib.ListN.{length, getD, take, drop, length-map}
+use lib.Seq.{take-append-seam}
+use lib.Ieee.{Float, lt}
+use Rattle.checks.specs.Outcome.{Outcome, refused, answered, written}
+use Rattle.samples.specs.Means.{Sample, recording, means, instants, frequencies}
+use Rattle.samples.specs.Approach.{nought, noFloor, leastSlope, approachOf}
+use Rattle.samples.proofs.Seconds.{some-means, few-means}
+use Rattle.samples.proofs.OwnSeconds.{Limited, limited-means}
+use Rattle.samples.proofs.Recordings.{record-length, record-instants}
+use Rattle.checks.proofs.Passed.{Samples}
+use Rattle.orbit.specs.Fitting.{Sampled}
+use Rattle.orbit.specs.Pass.{approachOr, middleOf, measuredBy}
+
+pub measured-near : (ts : List ℤ) (fs : List Float) → ((k : ℕ) → natAbs (getD ts k (pos 0)) ≤ 4000000000000000000) → natAbs (measuredBy ts fs) ≤ 4000000000000000000
+measured-near ts fs h = go (lt (leastSlope noFloor ts fs .slope) nought)
+  where
+    go : (b : Bool) → natAbs (approachOr (middleOf ts) (cond b (answered (getD ts (leastSlope noFloor ts fs .middle) (pos 0))) (refused 9))) ≤ 4000000000000000000
+    go true = h (leastSlope noFloor ts fs .middle)
+    go false = h (length ts / 2)
+
+-- samples as the checks of another crate see them
+pub passed-samples : (ts : List ℤ) (fs : List Float) → Sampled ts fs → Samples ts fs
+passed-samples ts fs h = record { some = h .some; few = h .few; same = h .same; near = h .near }
+
+-- a list of samples by its two parts
+pub by-parts : (M : List Sample) → recording (instants M) (frequencies M) ≡ M
+unfolding recording
+by-parts [] = refl
+by-parts (x ∷ M) = ap {B = List Sample} (λ l. x ∷ l) (by-parts M)
+
+-- the means of samples that passed their checks pass them too
+pub means-sampled : (ts : List ℤ) (fs : List Float) → Samples ts fs → Sampled (instants (means (recording ts fs))) (frequencies (means (recording ts fs)))
+means-sampled ts fs h =
+    let S = recording ts fs in
+    let M = means S in
+    let n : length S ≡ length ts = record-length ts fs (h .same) in
+    let a : length (instants M) ≡ length M = length-map M (λ (x : Sample). x .instant) in
+    let b : length (frequencies M) ≡ length M = length-map M (λ (x : Sample). x .frequency) in
+    let i : instants S ≡ ts = record-instants ts fs (h .same) in
+    record {
+      some = let u = some-means S (omega (arith, n, h .some)) in omega (arith, u, a);
+      few = let u = few-means S in omega (arith, u, a, n, h .few);
+      same = b ∙ sym a;
+      near = limited-means 4000000000000000000 S (subst (Limited 4000000000000000000) (sym i) (h .near));
+    }
+
+-- the front of an area on which n values were written
+pub front : {A : Type 0} (values old area : List A) (n : ℕ) → n ≡ length values → area ≡ written values old → take n area ≡ values
+front values old area n e h = ap₂ take e h ∙ take-append-seam values (drop (length values) old)
+
+-- the count of an answer
+abbrev counted : Outcome ℕ → ℕ
+counted (refused n) = n
+counted (answered n) = n
+
+pub same-count : (n m : ℕ) → answered n ≡ answered m → n ≡ m
+same-count n m e = ap counted e
+
+pub not-refused : (n m : ℕ) → _≡_ {A = Outcome ℕ} (refused n) (answered m) → ⊥
+not-refused n m e = let z : _≡_ {A = ℕ} 0 1 = cc e in omega arith

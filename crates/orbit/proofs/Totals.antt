@@ -1,0 +1,65 @@
+-- Sums over the front of a list, one term after the other, and the residuals of a recording, one sample after the other. Assumes nothing.
+use mathlib.Core.Path.{_≡_, refl, sym, ap, _∙_, subst}
+use mathlib.Core.List.{List, [], _∷_, _++_, map, append-assoc, append-nil}
+use Prim.Native.Nat.{ℕ, zero, suc, _+_, _-_, _≤_, _<_}
+use native.Mathlib.Numerals.{add-one}
+use native.Mathlib.Omega.{arith}
+use lib.IntN.{ℤ, pos}
+use lib.ListN.{length, getD, take, drop, set, drop-of-length-le}
+use lib.Seq.{drop-cons, take-suc-set}
+use lib.Ieee.{Float, nan, binary64, add}
+use Rattle.samples.specs.Means.{Sample, recording}
+use Rattle.orbit.specs.Fit.{Residual, nothing, left, keep, residuals, total}
+
+-- ---- sums
+
+pub total-step : (s : Float) (l : List Float) (i n : ℕ) → i < n → n ≤ length l → total (add binary64 s (getD l i nan)) (take (n - (i + 1)) (drop (i + 1) l)) ≡ total s (take (n - i) (drop i l))
+unfolding total
+total-step s l i n h k =
+    let e : n - i ≡ suc (n - (i + 1)) = omega arith in
+    let u : i < length l = omega arith in
+    rw (e, drop-cons l i nan u, add-one)
+
+pub total-end : (s : Float) (l : List Float) (i n : ℕ) → n ≤ i → total s (take (n - i) (drop i l)) ≡ s
+unfolding total
+total-end s l i n h =
+    let e : n - i ≡ 0 = omega arith in
+    rw e
+
+module _ (g : Float → Float) where
+  pub mapped-step : (s : Float) (l : List Float) (i n : ℕ) → i < n → n ≤ length l → total (add binary64 s (g (getD l i nan))) (map g (take (n - (i + 1)) (drop (i + 1) l))) ≡ total s (map g (take (n - i) (drop i l)))
+  unfolding total
+  mapped-step s l i n h k =
+      let e : n - i ≡ suc (n - (i + 1)) = omega arith in
+      let u : i < length l = omega arith in
+      rw (e, drop-cons l i nan u, add-one)
+
+  pub mapped-end : (s : Float) (l : List Float) (i n : ℕ) → n ≤ i → total s (map g (take (n - i) (drop i l))) ≡ s
+  unfolding total
+  mapped-end s l i n h =
+      let e : n - i ≡ 0 = omega arith in
+      rw e
+
+-- ---- residuals
+
+pub keep-apart : (r : Residual) (ys : List Float) → keep r ys ≡ keep r [] ++ ys
+keep-apart nothing ys = refl
+keep-apart (left y) ys = refl
+
+-- one sample more: its residual, if it has one, stands after those before
+pub residuals-step : (f : Sample → Residual) (ts : List ℤ) (fs : List Float) (i : ℕ) (before : List Float) → i < length ts → i < length fs
+    → (before ++ keep (f (record { instant = getD ts i (pos 0); frequency = getD fs i nan })) []) ++ residuals f (recording (drop (i + 1) ts) (drop (i + 1) fs)) ≡ before ++ residuals f (recording (drop i ts) (drop i fs))
+unfolding residuals recording
+residuals-step f ts fs i before h k =
+    let r = f (record { instant = getD ts i (pos 0); frequency = getD fs i nan }) in
+    rw (drop-cons ts i (pos 0) h, drop-cons fs i nan k, add-one)
+    (append-assoc before (keep r []) (residuals f (recording (drop (suc i) ts) (drop (suc i) fs)))
+    ∙ ap (λ (l : List Float). before ++ l) (sym (keep-apart r (residuals f (recording (drop (suc i) ts) (drop (suc i) fs))))))
+
+pub residuals-end : (f : Sample → Residual) (ts : List ℤ) (fs : List Float) (i : ℕ) (before : List Float) → length ts ≤ i → before ++ residuals f (recording (drop i ts) (drop i fs)) ≡ before
+unfolding residuals recording
+residuals-end f ts fs i before h = rw (drop-of-length-le ts h) (append-nil before)
+
+-- one value written after the first n
+pub pushed : (l : List Float) (n : ℕ) (v : Float) → n < length l → take (n + 1) (set l n v) ≡ take n l ++ v ∷ []
+pushed l n v h = rw add-one (take-suc-set l n v h)

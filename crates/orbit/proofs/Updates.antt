@@ -1,0 +1,95 @@
+-- A stage as the code runs it, one shift after the other on three doubles, and as the definitions search it. Assumes nothing.
+use mathlib.Core.Path.{_≡_, refl, sym, ap, _∙_, subst}
+use mathlib.Core.Bool.{Bool, true, false, cond, _&&_}
+use mathlib.Core.List.{List, [], _∷_, _++_, map}
+use Prim.Native.Nat.{ℕ, zero, suc, _+_, _-_, _≤_, _<_}
+use native.Mathlib.Omega.{arith}
+use lib.Dec.{T}
+use lib.Ieee.{Float, lt}
+use Rattle.float.specs.Magnitude.{Within}
+use Rattle.float.proofs.Comparison.{lt-trans}
+use Rattle.orbit.specs.declared.fit.LeastSoFar.{LeastSoFar}
+use Rattle.orbit.specs.Closest.{largest}
+use Rattle.orbit.specs.Fit.{Trial, Best, noneYet, found, later, search, shiftAt, shiftsFrom}
+use Rattle.orbit.specs.State.{stateOf, state, update, updates}
+
+module _ (try : Float → Trial) where
+  pub stage-step : (n k : ℕ) (start increment : Float) (s : LeastSoFar) → k < n
+      → updates (update s (try (shiftAt start increment k))) (map try (shiftsFrom (n - (k + 1)) (k + 1) start increment)) ≡ updates s (map try (shiftsFrom (n - k) k start increment))
+  unfolding updates shiftsFrom
+  stage-step n k start increment s h =
+      let e : n - k ≡ suc (n - (k + 1)) = omega arith in
+      rw e
+
+  pub stage-end : (n k : ℕ) (start increment : Float) (s : LeastSoFar) → n ≤ k → updates s (map try (shiftsFrom (n - k) k start increment)) ≡ s
+  unfolding updates shiftsFrom
+  stage-end n k start increment s h =
+      let e : n - k ≡ 0 = omega arith in
+      rw e
+
+-- ---- the three doubles are the search's best
+
+state-later : (b : Best) (t : Trial) → state (later b t) ≡ update (state b) t
+state-later noneYet t = go (t .enough && lt (t .rmse) largest)
+  where
+    go : (v : Bool) → state (cond v (found t) noneYet) ≡ cond v (stateOf t) (state noneYet)
+    go true = refl
+    go false = refl
+state-later (found u) t = go (t .enough && lt (t .rmse) (u .rmse))
+  where
+    go : (v : Bool) → state (cond v (found t) (found u)) ≡ cond v (stateOf t) (state (found u))
+    go true = refl
+    go false = refl
+
+pub state-search : (b : Best) (ts : List Trial) → updates (state b) ts ≡ state (search b ts)
+unfolding updates search
+state-search b [] = refl
+state-search b (t ∷ ts) = ap (λ (s : LeastSoFar). updates s ts) (sym (state-later b t)) ∙ state-search (later b t) ts
+
+pub updates-append : (s : LeastSoFar) (ts us : List Trial) → updates s (ts ++ us) ≡ updates (updates s ts) us
+unfolding updates
+updates-append s [] us = refl
+updates-append s (t ∷ ts) us = updates-append (update s t) ts us
+
+pub map-append : (f : Float → Trial) (s t : List Float) → map f (s ++ t) ≡ map f s ++ map f t
+map-append f [] t = refl
+map-append f (x ∷ xs) t = ap {B = List Trial} (λ r. f x ∷ r) (map-append f xs t)
+
+-- what is found has an RMSE below the largest finite double
+abbrev pub Below : Best → Type 0
+Below noneYet = Unit {0}
+Below (found t) = T (lt (t .rmse) largest)
+
+below-later : (b : Best) (t : Trial) → Below b → Below (later b t)
+below-later noneYet t h = go (t .enough) (lt (t .rmse) largest) (λ u. u)
+  where
+    go : (v w : Bool) → (T w → T (lt (t .rmse) largest)) → Below (cond (v && w) (found t) noneYet)
+    go true true f = f tt
+    go true false f = tt
+    go false w f = tt
+below-later (found u) t h = go (t .enough) (lt (t .rmse) (u .rmse)) (λ k. k)
+  where
+    go : (v w : Bool) → (T w → T (lt (t .rmse) (u .rmse))) → Below (cond (v && w) (found t) (found u))
+    go true true f = lt-trans (t .rmse) (u .rmse) largest (f tt) h
+    go true false f = h
+    go false w f = h
+
+pub below-search : (b : Best) (ts : List Trial) → Below b → Below (search b ts)
+unfolding search
+below-search b [] h = h
+below-search b (t ∷ ts) h = below-search (later b t) ts (below-later b t h)
+
+-- the shift that is kept is the start's or one of those tried
+updated-within : (n : ℕ) (s : LeastSoFar) (t : Trial) → Within n (s .shift) → Within n (t .shift) → Within n (update s t .shift)
+updated-within n s t h k = go (t .enough && lt (t .rmse) (s .rmse))
+  where
+    go : (v : Bool) → Within n (cond v (stateOf t) s .shift)
+    go true = k
+    go false = h
+
+pub updates-within : (try : Float → Trial) → ((x : Float) → try x .shift ≡ x) → (n : ℕ) (s : LeastSoFar) (m k : ℕ) (start increment : Float) → Within n (s .shift) → ((j : ℕ) → j < k + m → Within n (shiftAt start increment j)) → Within n (updates s (map try (shiftsFrom m k start increment)) .shift)
+unfolding updates shiftsFrom
+updates-within try named n s zero k start increment h f = h
+updates-within try named n s (suc m) k start increment h f =
+    updates-within try named n (update s (try (shiftAt start increment k))) m (k + 1) start increment
+    (updated-within n s (try (shiftAt start increment k)) h (subst (Within n) (sym (named (shiftAt start increment k))) (f k (omega arith)))) (λ j u. f j (omega arith))

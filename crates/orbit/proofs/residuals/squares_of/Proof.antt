@@ -1,0 +1,64 @@
+-- The sum so far and the squares that are left make up the whole sum. Assumes nothing.
+use mathlib.Core.Path.{_≡_, refl, sym, ap, _∙_}
+use Prim.Native.Nat.{ℕ, _+_, _-_, _≤_, _<_}
+use native.Mathlib.Omega.{arith}
+use lib.ListN.{length, take, drop}
+use lib.Ieee.{Float, ofBits, neg}
+use mathlib.Core.List.{map}
+use Rattle.orbit.specs.Fit.{total, minusZero, deviation}
+use Rattle.orbit.proofs.Totals.{mapped-step, mapped-end}
+use borrow.Author.Needs.{needs}
+use Rattle.orbit.proofs.residuals.squares_of.Statement.{statement}
+use Rattle.orbit.proofs.residuals.squares_of.Tie as tie
+
+abbrev Inv-loop : tie.InvT-loop
+Inv-loop values count mean sum₀ i₀ sum i = (i ≤ count) × (total sum (map (deviation mean) (take (count - i) (drop i values))) ≡ total minusZero (map (deviation mean) (take count values)))
+
+abbrev μ-loop : tie.MeasureT-loop
+μ-loop values count mean sum₀ i₀ sum i = count - i
+
+loop-holds : tie.Need-loop-holds Inv-loop μ-loop
+unfolding ofBits neg
+loop-holds c =
+    let n = c .args .count in
+    let e : n - 0 ≡ n = omega arith in
+    (search needs, rw e)
+
+mul-rest : tie.Need-mul-rest Inv-loop μ-loop
+mul-rest c = search needs
+
+shared-slice-read-rest : tie.Need-shared-slice-read-rest Inv-loop μ-loop
+shared-slice-read-rest c = search needs
+
+add-i : tie.Need-add-i Inv-loop μ-loop
+add-i c = search needs
+
+loop-less : tie.Need-loop-less Inv-loop μ-loop
+loop-less c = search needs
+
+loop-again : tie.Need-loop-again Inv-loop μ-loop
+unfolding deviation
+loop-again c =
+    let at = c .before .before .loop in
+    let s = c .before .before .before in
+    (search needs, mapped-step (deviation (s .args .mean)) (at .sum) (s .args .values .now) (at .i) (s .args .count) (omega arith) (s .pre) ∙ at .inv .1)
+
+returns : tie.Need-returns Inv-loop μ-loop
+returns c =
+    let at = c .before .loop in
+    let a = c .before .before .args in
+    sym (mapped-end (deviation (a .mean)) (at .sum) (a .values .now) (at .i) (a .count) (omega arith)) ∙ at .inv .1
+
+pub squares-of-spec : {M : Type 1} → statement M
+squares-of-spec =
+    tie.close
+    (tie.spec
+    Inv-loop
+    μ-loop
+    loop-holds
+    mul-rest
+    shared-slice-read-rest
+    add-i
+    loop-less
+    loop-again
+    returns)

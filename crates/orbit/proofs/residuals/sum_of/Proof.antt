@@ -1,0 +1,62 @@
+-- The sum so far and the values that are left make up the whole sum. Assumes nothing.
+use mathlib.Core.Path.{_≡_, refl, sym, ap, _∙_}
+use Prim.Native.Nat.{ℕ, _+_, _-_, _≤_, _<_}
+use native.Mathlib.Omega.{arith}
+use lib.ListN.{length, take, drop}
+use lib.Ieee.{Float, ofBits, neg}
+use Rattle.orbit.specs.Fit.{total, minusZero}
+use Rattle.orbit.proofs.Totals.{total-step, total-end}
+use borrow.Author.Needs.{needs}
+use Rattle.orbit.proofs.residuals.sum_of.Statement.{statement}
+use Rattle.orbit.proofs.residuals.sum_of.Tie as tie
+
+abbrev Inv-loop : tie.InvT-loop
+Inv-loop values count sum₀ i₀ sum i = (i ≤ count) × (total sum (take (count - i) (drop i values)) ≡ total minusZero (take count values))
+
+abbrev μ-loop : tie.MeasureT-loop
+μ-loop values count sum₀ i₀ sum i = count - i
+
+loop-holds : tie.Need-loop-holds Inv-loop μ-loop
+unfolding ofBits neg
+loop-holds c =
+    let n = c .args .count in
+    let e : n - 0 ≡ n = omega arith in
+    (search needs, rw e)
+
+mul-sum : tie.Need-mul-sum Inv-loop μ-loop
+mul-sum c = search needs
+
+shared-slice-read-sum : tie.Need-shared-slice-read-sum Inv-loop μ-loop
+shared-slice-read-sum c = search needs
+
+add-i : tie.Need-add-i Inv-loop μ-loop
+add-i c = search needs
+
+loop-less : tie.Need-loop-less Inv-loop μ-loop
+loop-less c = search needs
+
+loop-again : tie.Need-loop-again Inv-loop μ-loop
+loop-again c =
+    let at = c .before .before .loop in
+    let s = c .before .before .before in
+    (search needs, total-step (at .sum) (s .args .values .now) (at .i) (s .args .count) (omega arith) (s .pre) ∙ at .inv .1)
+
+returns : tie.Need-returns Inv-loop μ-loop
+returns c =
+    let at = c .before .loop in
+    let a = c .before .before .args in
+    sym (total-end (at .sum) (a .values .now) (at .i) (a .count) (omega arith)) ∙ at .inv .1
+
+pub sum-of-spec : {M : Type 1} → statement M
+sum-of-spec =
+    tie.close
+    (tie.spec
+    Inv-loop
+    μ-loop
+    loop-holds
+    mul-sum
+    shared-slice-read-sum
+    add-i
+    loop-less
+    loop-again
+    returns)

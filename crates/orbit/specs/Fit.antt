@@ -1,0 +1,250 @@
+-- `fit_satellite`: the shift whose residuals have the first least RMSE. Instants are nanoseconds, shifts seconds, frequencies hertz.
+use Prim.Native.Nat.{ℕ, zero, suc, _+_, _/_}
+use mathlib.Core.Bool.{Bool, true, false, cond, _&&_}
+use mathlib.Core.List.{List, [], _∷_, _++_, map}
+use lib.Dec.{ltb}
+use lib.IntN.{ℤ, pos, negsuc, _-ℤ_, _*ℤ_}
+use lib.ListN.{length}
+use lib.Ieee.{Float, fin, binary64, add, sub, mul, div, lt}
+use Rattle.float.specs.Root.{root}
+use Rattle.float.specs.Conversions.{nearestOf, truncatedOf}
+use Rattle.float.specs.Magnitude.{magnitudeOf}
+use Rattle.units.specs.declared.Position.{Position}
+use Rattle.units.specs.declared.Velocity.{Velocity}
+use Rattle.units.specs.declared.Observer.{Observer}
+use Rattle.checks.specs.Outcome.{Outcome, refused, answered, unlessRefused}
+use Rattle.checks.specs.Entries.{firstFailing, fitChecks}
+use Rattle.samples.specs.Means.{Sample, recording}
+use Rattle.samples.specs.Approach.{gapOf}
+use Rattle.samples.specs.Slant.{lightSpeed}
+use Rattle.orbit.specs.declared.fit.Report.{Report}
+use Rattle.orbit.specs.declared.fit.Fitted.{Fitted}
+use Rattle.orbit.specs.declared.fit.Fitted.the-variants.{Fit, Refused}
+use Rattle.orbit.specs.Window.{one, evenTolerance}
+use Rattle.orbit.specs.Propagation.{Motion, propagated}
+use Rattle.orbit.specs.Closest.{largest, squaredRange, closestInstant}
+
+-- "its other inputs are coordinate instants and positions, observer and centre frequency"; the tolerance of an even window with them
+pub record Inputs : Type 0 where
+  pub tolerance : Float
+  pub instants : List ℤ
+  pub positions : List Float
+  pub observer : Observer
+  pub centre : Float
+
+abbrev pub inputsOf : Float → List ℤ → List Float → Observer → Float → Inputs
+inputsOf tolerance instants positions observer centre = record { tolerance = tolerance; instants = instants; positions = positions; observer = observer; centre = centre }
+
+-- ---- a sample under a shift
+
+-- 1e6
+abbrev pub million : Float
+million = fin false 15625 (pos 6)
+
+-- a shift "in whole microseconds", toward zero
+abbrev pub microseconds : Float → ℤ
+microseconds shift = truncatedOf (mul binary64 shift million)
+
+-- "A candidate moves each sample earlier by its shift in whole microseconds"
+abbrev pub moved : ℤ → Float → ℤ
+moved t shift = t -ℤ microseconds shift *ℤ pos 1000
+
+-- how fast the range grows, in metres for each second; a zero range makes a NaN
+abbrev pub rangeRate : Observer → Motion → Float
+rangeRate o m =
+    let p = m .position in
+    let v = m .velocity in
+    div binary64
+    (add binary64 (add binary64 (mul binary64 (sub binary64 (p .x) (o .x .0)) (v .x)) (mul binary64 (sub binary64 (p .y) (o .y .0)) (v .y))) (mul binary64 (sub binary64 (p .z) (o .z .0)) (v .z)))
+    (root binary64 (squaredRange o p))
+
+-- what the measured frequency has over the one that the centre frequency becomes at that rate
+abbrev pub residualAt : Observer → Float → Float → Motion → Float
+residualAt o f0 frequency m = sub binary64 frequency (mul binary64 f0 (sub binary64 one (div binary64 (rangeRate o m) lightSpeed)))
+
+-- "samples without a position are skipped"
+pub data Residual : Type 0 where
+  nothing : Residual
+  left : Float → Residual
+
+abbrev pub residualIn : Observer → Float → Float → Outcome Motion → Residual
+residualIn o f0 frequency (refused n) = nothing
+residualIn o f0 frequency (answered m) = left (residualAt o f0 frequency m)
+
+abbrev pub residualOf : Inputs → Float → Sample → Residual
+residualOf i shift x = residualIn (i .observer) (i .centre) (x .frequency) (propagated (i .tolerance) (i .instants) (i .positions) (moved (x .instant) shift))
+
+-- ---- the trial of a shift
+
+abbrev pub keep : Residual → List Float → List Float
+keep nothing ys = ys
+keep (left y) ys = y ∷ ys
+
+-- the residuals that are left, in order
+unfoldable pub residuals : (Sample → Residual) → List Sample → List Float
+residuals f [] = []
+residuals f (x ∷ xs) = keep (f x) (residuals f xs)
+
+-- the sum in order, onto a
+unfoldable pub total : Float → List Float → Float
+unfolding add
+total a [] = a
+total a (y ∷ ys) = total (add binary64 a y) ys
+
+-- "These two sums start at −0.0, as Rust's `sum` does"
+abbrev pub minusZero : Float
+minusZero = fin true 0 (pos 0)
+
+unfoldable pub meanOver : List Float → Float
+unfolding total div
+meanOver ys = div binary64 (total minusZero ys) (nearestOf (pos (length ys)))
+
+-- (y − mean) × (y − mean)
+unfoldable pub deviation : Float → Float → Float
+unfolding sub mul
+deviation mean y = mul binary64 (sub binary64 y mean) (sub binary64 y mean)
+
+-- a shift with its frequency offset and RMSE, and whether enough samples are left
+pub record Trial : Type 0 where
+  pub shift : Float
+  pub offset : Float
+  pub rmse : Float
+  pub enough : Bool
+
+-- "The frequency offset is the mean residual; RMSE is the root of the mean squared rest"; "more than half the samples (whole-number half) left"
+unfoldable pub trial : (Float → Sample → Residual) → List Sample → Float → Trial
+unfolding residuals meanOver deviation
+trial residual S shift =
+    let ys = residuals (residual shift) S in
+    let offset = meanOver ys in
+    record { shift = shift; offset = offset; rmse = root binary64 (meanOver (map (deviation offset) ys)); enough = ltb (length S / 2) (length ys) }
+
+-- "Usable: more than half the samples left and an RMSE below the largest finite double"
+abbrev pub usable : Trial → Bool
+usable t = t .enough && lt (t .rmse) largest
+
+-- ---- the first least
+
+pub data Best : Type 0 where
+  noneYet : Best
+  found : Trial → Best
+
+abbrev pub rmseOf : Best → Float
+rmseOf noneYet = largest
+rmseOf (found t) = t .rmse
+
+-- "A later candidate wins only by a smaller RMSE"
+abbrev pub later : Best → Trial → Best
+later b t = cond (t .enough && lt (t .rmse) (rmseOf b)) (found t) b
+
+unfoldable pub search : Best → List Trial → Best
+search b [] = b
+search b (t ∷ ts) = search (later b t) ts
+
+-- "the earliest of least RMSE among the usable shifts"
+abbrev pub firstLeast : (Float → Trial) → List Float → Best
+firstLeast try L = search noneYet (map try L)
+
+-- ---- the list of the shifts
+
+-- 5.0, 15.0, 0.1, 0.05, 0.001, 0.00001
+abbrev pub five : Float
+five = fin false 5 (pos 0)
+
+abbrev pub fifteen : Float
+fifteen = fin false 15 (pos 0)
+
+abbrev pub tenth : Float
+tenth = fin false 3602879701896397 (negsuc 54)
+
+abbrev pub twentieth : Float
+twentieth = fin false 3602879701896397 (negsuc 55)
+
+abbrev pub thousandth : Float
+thousandth = fin false 1152921504606847 (negsuc 59)
+
+abbrev pub hundredThousandth : Float
+hundredThousandth = fin false 5902958103587057 (negsuc 68)
+
+abbrev pub plusZero : Float
+plusZero = fin false 0 (pos 0)
+
+-- step n of a stage: start + step × increment
+abbrev pub shiftAt : Float → Float → ℕ → Float
+shiftAt start increment step = add binary64 start (mul binary64 (nearestOf (pos step)) increment)
+
+-- n shifts of a stage from step k on, "steps rising"
+unfoldable pub shiftsFrom : ℕ → ℕ → Float → Float → List Float
+unfolding add mul
+shiftsFrom zero k start increment = []
+shiftsFrom (suc n) k start increment = shiftAt start increment k ∷ shiftsFrom n (k + 1) start increment
+
+-- "Coarse: centre − 15.0 + step·0.1, steps 0 to 300"
+unfoldable pub around : Float → List Float
+unfolding shiftsFrom sub
+around centre = shiftsFrom 301 0 (sub binary64 centre fifteen) tenth
+
+-- "a second centre 0.0 if its magnitude is over 5.0"
+unfoldable pub coarse : Float → List Float
+unfolding around
+coarse centre = around centre ++ cond (lt five (magnitudeOf centre)) (around plusZero) []
+
+-- "Fine: from the first least so far − 0.05, step·0.001, 0 to 100"
+unfoldable pub fine : Float → List Float
+unfolding shiftsFrom sub
+fine best = shiftsFrom 101 0 (sub binary64 best twentieth) thousandth
+
+-- "Micro: from the first least so far − 0.001, step·0.00001, 0 to 200"
+unfoldable pub micro : Float → List Float
+unfolding shiftsFrom sub
+micro best = shiftsFrom 201 0 (sub binary64 best thousandth) hundredThousandth
+
+-- a further stage from the first least of those before: "Without a usable coarse shift there are no fine or micro ones"
+abbrev pub further : (Float → List Float) → Best → List Float
+further f noneYet = []
+further f (found t) = f (t .shift)
+
+module _ (try : Float → Trial) (centre : Float) where
+  unfoldable pub coarseFine : List Float
+  coarseFine = coarse centre ++ further fine (firstLeast try (coarse centre))
+
+  -- "The shifts are one list": coarse, fine, micro
+  unfoldable pub shifts : List Float
+  unfolding coarseFine
+  shifts = coarseFine ++ further micro (firstLeast try coarseFine)
+
+-- ---- the outcome
+
+-- three doubles and a count: made here alone
+abbrev pub report : ℕ → Trial → Report
+report n t = record { clock = record { 0 = t .shift }; frequency = record { 0 = t .offset }; rmse = record { 0 = t .rmse }; count = n }
+
+-- "No coarse candidate is usable"
+abbrev pub reportOf : ℕ → Best → Outcome Report
+reportOf n noneYet = refused 10
+reportOf n (found t) = answered (report n t)
+
+-- n is the number of samples
+unfoldable pub fitBy : (Float → Trial) → ℕ → Float → Outcome Report
+unfolding shifts search
+fitBy try n centre = reportOf n (firstLeast try (shifts try centre))
+
+-- "Centre: measured minus predicted, in whole milliseconds over 1000"
+abbrev pub centreOf : Inputs → ℤ → Float
+centreOf i measured = gapOf (closestInstant (i .tolerance) (i .instants) (i .positions) (i .observer) measured) measured
+
+-- the fit of samples about a measured instant
+abbrev pub fitted : Inputs → List Sample → ℤ → Outcome Report
+fitted i S measured = fitBy (trial (residualOf i) S) (length S) (centreOf i measured)
+
+-- ---- the entry: checks 1, 2, 4, 5, 6, 7, then 10
+
+abbrev pub satelliteFit : Inputs → List ℤ → List Float → ℤ → Outcome Report
+satelliteFit i ts fs measured =
+    unlessRefused (firstFailing (fitChecks (i .instants) (i .positions) ts fs (i .observer .x .0) (i .observer .y .0) (i .observer .z .0) (i .centre) measured))
+    (fitted i (recording ts fs) measured)
+
+-- the paper's number and values of each case of the answer
+abbrev pub fitIn : Fitted → Outcome Report
+fitIn (Fit r) = answered r
+fitIn (Refused n) = refused n

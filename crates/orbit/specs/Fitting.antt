@@ -1,0 +1,22 @@
+-- What the inner functions of a fit rely on: a table that passed its checks, samples that passed theirs, and room for a residual of each.
+use Prim.Native.Nat.{ℕ, _≤_, _<_}
+use mathlib.Core.Path.{_≡_}
+use mathlib.Core.List.{List}
+use lib.IntN.{ℤ, pos, natAbs}
+use lib.ListN.{length, getD}
+use lib.Ieee.{Float}
+use Rattle.orbit.specs.Table.{Table}
+
+pub record Fitting (instants : List ℤ) (positions : List Float) (samples : List ℤ) (frequencies values : List Float) : Type 0 where
+  pub table : Table instants positions
+  pub same : length frequencies ≡ length samples
+  pub few : length samples ≤ 4096
+  pub near : (k : ℕ) → natAbs (getD samples k (pos 0)) ≤ 4000000000000000000
+  pub room : length samples ≤ length values
+
+-- samples that passed their checks
+pub record Sampled (samples : List ℤ) (frequencies : List Float) : Type 0 where
+  pub some : 0 < length samples
+  pub few : length samples ≤ 4096
+  pub same : length frequencies ≡ length samples
+  pub near : (k : ℕ) → natAbs (getD samples k (pos 0)) ≤ 4000000000000000000

@@ -1,0 +1,46 @@
+-- The pass entry: "Checks, means, measured approach or else the mean at index count/2, fit on the means".
+use Prim.Native.Nat.{ℕ, zero, suc, _/_}
+use mathlib.Core.List.{List}
+use lib.IntN.{ℤ, pos}
+use lib.ListN.{length, getD}
+use lib.Ieee.{Float}
+use Rattle.checks.specs.Outcome.{Outcome, refused, answered, unlessRefused, area}
+use Rattle.checks.specs.Entries.{firstFailing, passChecks}
+use Rattle.samples.specs.Means.{Sample, recording, means, instants, frequencies}
+use Rattle.samples.specs.Approach.{approachOf}
+use Rattle.orbit.specs.declared.fit.Report.{Report}
+use Rattle.orbit.specs.Fit.{Inputs, fitted}
+
+-- the measured approach of the means, or else the mean at index count/2
+abbrev pub approachOr : ℤ → Outcome ℤ → ℤ
+approachOr fallback (refused n) = fallback
+approachOr fallback (answered t) = t
+
+abbrev pub middleOf : List ℤ → ℤ
+middleOf ts = getD ts (length ts / 2) (pos 0)
+
+abbrev pub measuredBy : List ℤ → List Float → ℤ
+measuredBy ts fs = approachOr (middleOf ts) (approachOf ts fs)
+
+abbrev pub measuredOf : List Sample → ℤ
+measuredOf M = measuredBy (instants M) (frequencies M)
+
+-- the fit on the means
+abbrev pub passOutcome : Inputs → List Sample → Outcome Report
+passOutcome i S = let M = means S in fitted i M (measuredOf M)
+
+-- ---- the entry: checks 1 to 7, then 10
+
+abbrev pub passRefusal : Inputs → List ℤ → List Float → List ℤ → List Float → ℕ
+passRefusal i ts fs instantArea frequencyArea =
+    firstFailing (passChecks (i .instants) (i .positions) ts fs (i .observer .x .0) (i .observer .y .0) (i .observer .z .0) (i .centre) instantArea frequencyArea)
+
+abbrev pub passReport : Inputs → List ℤ → List Float → List ℤ → List Float → Outcome Report
+passReport i ts fs instantArea frequencyArea = unlessRefused (passRefusal i ts fs instantArea frequencyArea) (passOutcome i (recording ts fs))
+
+-- a refusal by a check writes nothing; 10 leaves the means written: they stand at the front, the rest of each area untouched
+abbrev pub passInstants : Inputs → List ℤ → List Float → List ℤ → List Float → List ℤ
+passInstants i ts fs instantArea frequencyArea = area (passRefusal i ts fs instantArea frequencyArea) (instants (means (recording ts fs))) instantArea
+
+abbrev pub passFrequencies : Inputs → List ℤ → List Float → List ℤ → List Float → List Float
+passFrequencies i ts fs instantArea frequencyArea = area (passRefusal i ts fs instantArea frequencyArea) (frequencies (means (recording ts fs))) frequencyArea

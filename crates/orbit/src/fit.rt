@@ -1,0 +1,330 @@
+// The fit of a recording to a satellite: the shift of its clock with the first least RMSE.
+ghost use mathlib.Core.Path.{_≡_};
+ghost use mathlib.Core.List.{map};
+ghost use Prim.Native.Nat.{ℕ, _<_, _≤_};
+ghost use lib.IntN.{pos, natAbs};
+ghost use lib.ListN.{length, getD};
+ghost use Rattle.float.specs.Magnitude.{Within};
+ghost use Rattle.samples.specs.Means.{recording};
+ghost use Rattle.samples.specs.Approach.{gapOf};
+ghost use Rattle.orbit.specs.Table.{Table};
+ghost use Rattle.orbit.specs.Fitting.{Fitting};
+ghost use Rattle.orbit.specs.Window.{evenTolerance};
+ghost use Rattle.orbit.specs.Fit.{inputsOf, residualOf, trial, shiftAt, shiftsFrom, coarse, noneYet, fitted, satelliteFit, fitIn};
+ghost use Rattle.orbit.specs.State.{update, updates, state, finished};
+use crate::closest::closest_at;
+use crate::residuals::collect_residuals;
+use crate::residuals::squares_of;
+use crate::residuals::sum_of;
+use checks::refuse_fit;
+use float::magnitude;
+use float::nearest;
+use float::sqrt;
+use units::Hertz;
+use units::Nanoseconds;
+use units::Observer;
+use units::Seconds;
+
+// Clock offset, frequency offset, RMSE of the residuals, and how many samples or means were fitted.
+pub struct Report {
+    pub clock: Seconds,
+    pub frequency: Hertz,
+    pub rmse: Hertz,
+    pub count: usize,
+}
+
+// The report, or the refusal (1 to 7, 10).
+pub enum Fitted {
+    Fit(Report),
+    Refused(u8),
+}
+
+// The least RMSE so far in hertz, its shift in seconds and its frequency offset in hertz.
+struct LeastSoFar {
+    rmse: f64,
+    shift: f64,
+    offset: f64,
+}
+
+// The better of the least so far and the trial of a shift: the shift wins only with enough residuals and a smaller RMSE.
+fn try_shift(
+    instants: &[i64],
+    positions: &[f64],
+    samples: &[i64],
+    frequencies: &[f64],
+    observer: Observer,
+    f0: f64,
+    tolerance: f64,
+    shift: f64,
+    values: &mut [f64],
+    best: LeastSoFar,
+) -> LeastSoFar
+    requires { ⌜ Table (now instants) (now positions) × (length (now frequencies) ≡ length (now samples)) × (length (now samples) ≤ length (now values)) × ((k : ℕ) → natAbs (getD (now samples) k (pos 0)) ≤ 4000000000000000000) × Within 20000 shift × (length (now samples) ≤ 4096) ⌝ }
+    ensures { λ r. ⌜ r ≡ update best (trial (residualOf (inputsOf tolerance (now (instants .entry)) (now (positions .entry)) observer f0)) (recording (now (samples .entry)) (now (frequencies .entry))) shift) ⌝ }
+{
+    let count = collect_residuals(
+        instants,
+        positions,
+        samples,
+        frequencies,
+        observer,
+        f0,
+        tolerance,
+        shift,
+        values,
+    );
+    if count <= samples.len() / 2 {
+        return best;
+    }
+    let n = nearest(count as i64);
+    let offset = sum_of(values, count) / n;
+    let rmse = sqrt(squares_of(values, count, offset) / n);
+    if rmse < best.rmse {
+        return LeastSoFar {
+            rmse,
+            shift,
+            offset,
+        };
+    }
+    best
+}
+
+// The shift at a step of a stage, in seconds.
+fn shift_at(start: f64, increment: f64, step: u64) -> f64
+    requires { ⌜ step < 1000 ⌝ }
+    ensures { λ r. ⌜ r ≡ shiftAt start increment step ⌝ }
+{
+    start + nearest(step as i64) * increment
+}
+
+// One stage: the least so far after `steps` shifts from `start`, each `increment` seconds after the last.
+fn run_stage(
+    instants: &[i64],
+    positions: &[f64],
+    samples: &[i64],
+    frequencies: &[f64],
+    observer: Observer,
+    f0: f64,
+    tolerance: f64,
+    start: f64,
+    increment: f64,
+    steps: u64,
+    values: &mut [f64],
+    best: LeastSoFar,
+) -> LeastSoFar
+    requires { ⌜ Fitting (now instants) (now positions) (now samples) (now frequencies) (now values) × Within 12000 start × Within 1 increment × (steps ≤ 301) ⌝ }
+    ensures { λ r. ⌜ r ≡ updates best (map (trial (residualOf (inputsOf tolerance (now (instants .entry)) (now (positions .entry)) observer f0)) (recording (now (samples .entry)) (now (frequencies .entry)))) (shiftsFrom steps 0 start increment)) ⌝ }
+{
+    let mut least = best;
+    for step in 0..steps {
+        let shift = shift_at(start, increment, step);
+        let next = try_shift(
+            instants,
+            positions,
+            samples,
+            frequencies,
+            observer,
+            f0,
+            tolerance,
+            shift,
+            values,
+            least,
+        );
+        least = next;
+    }
+    least
+}
+
+// The coarse stage: the least so far after the shifts about a centre in seconds, and about 0 too if its magnitude is over 5.
+fn coarse_stage(
+    instants: &[i64],
+    positions: &[f64],
+    samples: &[i64],
+    frequencies: &[f64],
+    observer: Observer,
+    f0: f64,
+    tolerance: f64,
+    centre: f64,
+    values: &mut [f64],
+) -> LeastSoFar
+    requires { ⌜ Fitting (now instants) (now positions) (now samples) (now frequencies) (now values) × Within 10001 centre ⌝ }
+    ensures { λ r. ⌜ r ≡ updates (state noneYet) (map (trial (residualOf (inputsOf tolerance (now (instants .entry)) (now (positions .entry)) observer f0)) (recording (now (samples .entry)) (now (frequencies .entry)))) (coarse centre)) ⌝ }
+{
+    let none = LeastSoFar {
+        rmse: 1.7976931348623157e308,
+        shift: 0.0,
+        offset: 0.0,
+    };
+    let best = run_stage(
+        instants,
+        positions,
+        samples,
+        frequencies,
+        observer,
+        f0,
+        tolerance,
+        centre - 15.0,
+        0.1,
+        301,
+        values,
+        none,
+    );
+    if !(magnitude(centre) > 5.0) {
+        return best;
+    }
+    run_stage(
+        instants,
+        positions,
+        samples,
+        frequencies,
+        observer,
+        f0,
+        tolerance,
+        0.0 - 15.0,
+        0.1,
+        301,
+        values,
+        best,
+    )
+}
+
+// The fine and micro stages from the least so far, and the report; 10 where no coarse shift was usable.
+fn finish_fit(
+    instants: &[i64],
+    positions: &[f64],
+    samples: &[i64],
+    frequencies: &[f64],
+    observer: Observer,
+    f0: f64,
+    tolerance: f64,
+    values: &mut [f64],
+    best: LeastSoFar,
+) -> Fitted
+    requires { ⌜ Fitting (now instants) (now positions) (now samples) (now frequencies) (now values) × Within 10400 (best .shift) ⌝ }
+    ensures { λ r. ⌜ fitIn r ≡ finished (trial (residualOf (inputsOf tolerance (now (instants .entry)) (now (positions .entry)) observer f0)) (recording (now (samples .entry)) (now (frequencies .entry)))) (length (now (samples .entry))) best ⌝ }
+{
+    if !(best.rmse < 1.7976931348623157e308) {
+        return Fitted::Refused(10);
+    }
+    let fine = run_stage(
+        instants,
+        positions,
+        samples,
+        frequencies,
+        observer,
+        f0,
+        tolerance,
+        best.shift - 0.05,
+        0.001,
+        101,
+        values,
+        best,
+    );
+    let micro = run_stage(
+        instants,
+        positions,
+        samples,
+        frequencies,
+        observer,
+        f0,
+        tolerance,
+        fine.shift - 0.001,
+        0.00001,
+        201,
+        values,
+        fine,
+    );
+    Fitted::Fit(Report {
+        clock: Seconds(micro.shift),
+        frequency: Hertz(micro.offset),
+        rmse: Hertz(micro.rmse),
+        count: samples.len(),
+    })
+}
+
+// The centre of the search, in seconds: measured minus predicted, in whole milliseconds over 1000.
+fn centre_between(predicted: i64, measured: i64) -> f64
+    requires { ⌜ (natAbs predicted ≤ 4100000000000000000) × (natAbs measured ≤ 4000000000000000000) ⌝ }
+    ensures { λ r. ⌜ r ≡ gapOf predicted measured ⌝ }
+{
+    nearest((measured - predicted) / 1000000) / 1000.0
+}
+
+// The fit of samples that passed their checks about a measured instant.
+pub(crate) fn fit_about(
+    instants: &[i64],
+    positions: &[f64],
+    samples: &[i64],
+    frequencies: &[f64],
+    observer: Observer,
+    f0: f64,
+    measured: i64,
+    tolerance: f64,
+    values: &mut [f64],
+) -> Fitted
+    requires { ⌜ Fitting (now instants) (now positions) (now samples) (now frequencies) (now values) × (natAbs measured ≤ 4000000000000000000) ⌝ }
+    ensures { λ r. ⌜ fitIn r ≡ fitted (inputsOf tolerance (now (instants .entry)) (now (positions .entry)) observer f0) (recording (now (samples .entry)) (now (frequencies .entry))) measured ⌝ }
+{
+    let predicted = closest_at(instants, positions, observer, measured, tolerance);
+    let centre = centre_between(predicted, measured);
+    let best = coarse_stage(
+        instants,
+        positions,
+        samples,
+        frequencies,
+        observer,
+        f0,
+        tolerance,
+        centre,
+        values,
+    );
+    finish_fit(
+        instants,
+        positions,
+        samples,
+        frequencies,
+        observer,
+        f0,
+        tolerance,
+        values,
+        best,
+    )
+}
+
+// Clock offset, frequency offset and RMSE of samples, by the table and the instant of the measured approach.
+pub fn fit_satellite(
+    instants: &[i64],
+    positions: &[f64],
+    samples: &[i64],
+    frequencies: &[f64],
+    observer: Observer,
+    f0: Hertz,
+    measured: Nanoseconds,
+) -> Fitted
+    ensures { λ r. ⌜ fitIn r ≡ satelliteFit (inputsOf evenTolerance (now (instants .entry)) (now (positions .entry)) observer (f0 .0)) (now (samples .entry)) (now (frequencies .entry)) (measured .0) ⌝ }
+{
+    let refusal = refuse_fit(
+        instants,
+        positions,
+        samples,
+        frequencies,
+        observer,
+        f0,
+        measured,
+    );
+    if refusal != 0 {
+        return Fitted::Refused(refusal);
+    }
+    let mut values = [0.0; 4096];
+    fit_about(
+        instants,
+        positions,
+        samples,
+        frequencies,
+        observer,
+        f0.0,
+        measured.0,
+        1.0,
+        &mut values,
+    )
+}
