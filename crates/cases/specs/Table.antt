@@ -6,14 +6,18 @@ use mathlib.Core.Bool.{true, false}
 use mathlib.Core.List.{List, [], _∷_, _++_, map}
 use lib.IntN.{ℤ, pos, negsuc}
 use lib.ListN.{replicate}
-use lib.Ieee.{Float, fin, binary64, round, add, sub, mul}
+use lib.Ieee.{Float, fin, binary64, round, ofInt, add, sub, mul, div}
 use Rattle.float.specs.Root.{root, rootOf, wholeRoot, rootIn}
 use Rattle.chebyshev.specs.Lists.{listOf}
 use Rattle.chebyshev.specs.Recurrence.{rounded, valueOf, slopeOf, weightedFrom, T, T′}
+use Rattle.samples.specs.Means.{Sample, recording, wholeSecond, bin, insert, seconds, offsets, frequencySum, meanInstant, meanFrequency, meanOf, means}
+use Rattle.orbit.specs.Window.{startOf}
 
 -- what a line compares
 pub data Value : Type 0 where
   double : Float → Value
+  whole : ℤ → Value
+  samples : List Sample → Value
 
 -- a line: what the definition gives, and what the paper says
 pub record Case : Type 0 where
@@ -60,10 +64,27 @@ chebyshevLines =
     ∷ case (double (slopeOf rounded (single 9 0) one)) (double (plus 81 (pos 0)))
     ∷ []
 
+-- "Start, 20 coordinates P: idx 4 → 0; 5 → 1; 14 → 10; 15 → 10"
+abbrev startLines : List Case
+startLines =
+    case (whole (pos (startOf 4 20))) (whole (pos 0))
+    ∷ case (whole (pos (startOf 5 20))) (whole (pos 1))
+    ∷ case (whole (pos (startOf 14 20))) (whole (pos 10))
+    ∷ case (whole (pos (startOf 15 20))) (whole (pos 10))
+    ∷ []
+
+-- "Means P: instants 5,000 and 0 with 10 and 20 Hz → 3,000 and 15; −1 lies in second −1, 0 in second 0"
+abbrev meansLines : List Case
+meansLines =
+    case (samples (means (recording (pos 5000 ∷ pos 0 ∷ []) (plus 5 (pos 1) ∷ plus 5 (pos 2) ∷ [])))) (samples (record { instant = pos 3000; frequency = plus 15 (pos 0) } ∷ []))
+    ∷ case (whole (wholeSecond (negsuc 0))) (whole (negsuc 0))
+    ∷ case (whole (wholeSecond (pos 0))) (whole (pos 0))
+    ∷ []
+
 abbrev pub table : List Case
-table = rootLines ++ chebyshevLines
+table = rootLines ++ chebyshevLines ++ startLines ++ meansLines
 
 -- the definitions meet every line
 pub table-holds : map (λ (c : Case). c .given) table ≡ map (λ (c : Case). c .paper) table
-unfolding root rootOf wholeRoot rootIn round add sub mul listOf weightedFrom T T′
+unfolding root rootOf wholeRoot rootIn round add sub mul div listOf weightedFrom T T′ recording bin insert seconds offsets frequencySum meanInstant meanFrequency meanOf means ofInt
 table-holds = refl
