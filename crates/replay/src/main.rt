@@ -1,10 +1,15 @@
 // Answers a list of cases: reads them from standard input, one a line, and writes one line for each to standard output.
 // A case is the name of an entry and its arguments, each after a blank as the 16 lower-case hexadecimal digits of a double's bits or of an
-// i64's two's complement. The answer is the name and what the library answers, in the same form; for a line that is no case it is `bad case`.
+// i64's two's complement; a slice is its length in such digits, and then its elements. The answer is the name and what the library answers, in
+// the same form, after a refusal's number, or 0, in decimal where the entry can refuse; for a line that is no case it is `bad case`.
 mod entries;
+mod fit_entries;
 mod numbers;
+mod orbit_entries;
 mod printer;
 mod reader;
+mod samples_entries;
+mod slices;
 
 ghost use Prim.Native.Nat.{_≤_};
 ghost use lib.ListN.{length};
@@ -12,7 +17,52 @@ ghost use Rattle.io.specs.Counts.{Counts};
 use check::same;
 use reader::Line;
 
-// Puts the answer to one case into `out`, by the entry's name, and says how many bytes wait there to be written.
+// Puts the answer to a case of the fit into `out`, and says how many bytes wait there to be written.
+fn answer_fit(name: &[u8], words: &[u64], out: &mut [u8]) -> usize {
+    if same(name, b"fit_satellite") {
+        return fit_entries::fit_satellite(words, out);
+    }
+    if same(name, b"pass") {
+        return fit_entries::pass(words, out);
+    }
+    printer::bad_case(out)
+}
+
+// Puts the answer to a case of a recording into `out`, and says how many bytes wait there to be written.
+fn answer_samples(name: &[u8], words: &[u64], out: &mut [u8]) -> usize {
+    if same(name, b"estimate_measured_pca_time") {
+        return samples_entries::estimate_measured_pca_time(words, out);
+    }
+    if same(name, b"steepest_slope") {
+        return samples_entries::steepest_slope(words, out);
+    }
+    if same(name, b"estimate_slant_range") {
+        return samples_entries::estimate_slant_range(words, out);
+    }
+    if same(name, b"downsample_data") {
+        return samples_entries::downsample_data(words, out);
+    }
+    answer_fit(name, words, out)
+}
+
+// Puts the answer to a case of the tabulated orbit, or of a recording, into `out`, and says how many bytes wait there.
+fn answer_orbit(name: &[u8], words: &[u64], out: &mut [u8]) -> usize {
+    if same(name, b"get_chebyshev_model") {
+        return orbit_entries::get_chebyshev_model(words, out);
+    }
+    if same(name, b"evaluate") {
+        return orbit_entries::evaluate(words, out);
+    }
+    if same(name, b"propagate_ecef") {
+        return orbit_entries::propagate_ecef(words, out);
+    }
+    if same(name, b"find_pca_time") {
+        return orbit_entries::find_pca_time(words, out);
+    }
+    answer_samples(name, words, out)
+}
+
+// Puts the answer to one case into `out`, by the entry's name, and says how many bytes wait there.
 fn answer(name: &[u8], words: &[u64], out: &mut [u8]) -> usize {
     if same(name, b"sqrt") {
         return entries::sqrt(words, out);
@@ -29,7 +79,7 @@ fn answer(name: &[u8], words: &[u64], out: &mut [u8]) -> usize {
     if same(name, b"invert_matrix_10") {
         return entries::invert_matrix_10(words, out);
     }
-    printer::bad_case(out)
+    answer_orbit(name, words, out)
 }
 
 // Puts the answer to a line that is read to its end into `out`, and says how many bytes wait there.

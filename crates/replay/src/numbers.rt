@@ -1,4 +1,4 @@
-// Words as numbers: a digit's value, a double by its bits, a signed number by its two's complement, and doubles in rows.
+// Words as numbers: a digit's value, a double by its bits, a signed number by its two's complement, doubles in rows, and a place.
 ghost use mathlib.Core.Path.{_≡_};
 ghost use mathlib.Core.List.{[]};
 ghost use Prim.Native.Nat.{ℕ, _+_, _*_, _<_, _≤_};
@@ -7,6 +7,8 @@ ghost use lib.Ieee.{binary64, ofBits, nan};
 ghost use mir.Syntax.{w64};
 ghost use mir.Val.{toZ, ofZ};
 ghost use Rattle.io.specs.Digits.{glyph};
+use units::Metres;
+use units::Observer;
 
 // The value of a lower-case hexadecimal digit, and 16 for any other byte.
 pub(crate) fn digit_of(byte: u8) -> u64
@@ -80,4 +82,15 @@ pub(crate) fn ten_rows(words: &[u64]) -> [[f64; 10]; 10]
         rows[i] = row;
     }
     rows
+}
+
+// Where the observer stands: three doubles from the word at `at` on.
+pub(crate) fn observer_at(words: &[u64], at: usize) -> Observer
+    requires { ⌜ at + 3 ≤ length (now words) ⌝ }
+{
+    Observer {
+        x: Metres(double(words[at])),
+        y: Metres(double(words[at + 1])),
+        z: Metres(double(words[at + 2])),
+    }
 }

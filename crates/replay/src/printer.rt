@@ -75,6 +75,17 @@ pub(crate) fn print_doubles(out: &mut [u8], waiting: usize, numbers: &[f64]) -> 
     at
 }
 
+// Puts one signed number after the other.
+pub(crate) fn print_instants(out: &mut [u8], waiting: usize, numbers: &[i64]) -> usize {
+    let mut at = waiting;
+    let mut i = 0;
+    while i < numbers.len() {
+        at = print_signed(out, at, numbers[i]);
+        i += 1;
+    }
+    at
+}
+
 // Ends the line.
 pub(crate) fn print_end(out: &mut [u8], waiting: usize) -> usize {
     print_byte(out, waiting, b'\n')
