@@ -3,7 +3,7 @@
  * Link with target/staticlib/liborbit_abi.a, made by `rt staticlib orbit_abi`.
  *
  * Every function takes any numbers. Those that can refuse answer the refusal's number, 0 where they answered; results go through the
- * pointers at the end and stay untouched on a refusal. A pointer is to as many numbers as its parameter says, or as the count after it
+ * pointers at the end and stay untouched on a refusal (but for the means of orbit_pass under 10). A pointer is to as many numbers as its parameter says, or as the count after it
  * says, and never null; areas that are written do not overlap any other argument.
  *
  * A table of coordinates is its instants, strictly rising, and its positions: x, y, z for each instant, in metres, earth-centred and
@@ -102,6 +102,21 @@ uint8_t orbit_steepest_slope(const int64_t *instants, size_t instant_count, cons
 /* The distance to the satellite at its closest, from the centre frequency and the steepest slope in hertz for each second;
  * 2,000,000 m where the slope's magnitude is at most 0.1 or NaN. */
 orbit_metres orbit_estimate_slant_range(orbit_hertz f0, double slope);
+
+/* The fit of a recording to a satellite, about the instant of its measured approach. Into report: clock offset in seconds, frequency
+ * offset in hertz, RMSE in hertz; into count: the number of samples. Refuses by 1, 2, 4, 5, 6, 7, 10. */
+uint8_t orbit_fit_satellite(const int64_t *instants, size_t instant_count, const double *positions, size_t position_count,
+                            const int64_t *samples, size_t sample_count, const double *frequencies, size_t frequency_count,
+                            orbit_metres ox, orbit_metres oy, orbit_metres oz, orbit_hertz f0, orbit_nanoseconds measured,
+                            double report[3], uint64_t *count);
+
+/* The whole pass: the means of a recording, as above, their measured approach or else the mean at index count / 2, and the fit of the means.
+ * Into report: as above; into count: the number of means. Refuses by 1, 2, 3, 4, 5, 6, 7, 10; under 10 the means stay written. */
+uint8_t orbit_pass(const int64_t *instants, size_t instant_count, const double *positions, size_t position_count,
+                   const int64_t *samples, size_t sample_count, const double *frequencies, size_t frequency_count,
+                   orbit_metres ox, orbit_metres oy, orbit_metres oz, orbit_hertz f0,
+                   int64_t *mean_instants, size_t mean_instant_count, double *mean_frequencies, size_t mean_frequency_count,
+                   double report[3], uint64_t *count);
 
 #ifdef __cplusplus
 }

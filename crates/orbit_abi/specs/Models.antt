@@ -1,4 +1,4 @@
--- A model as C lends it: 32 doubles, t0, t9, then ten coefficients each of x, y and z; and a motion: position and velocity, x, y, z each.
+-- A model as C lends it: 32 doubles, t0, t9, then ten coefficients each of x, y and z; and a motion: position and velocity, x, y, z each; and a report: clock offset, frequency offset, RMSE.
 -- Assumes nothing.
 use Prim.Native.Nat.{ℕ, _+_, _-_}
 use mathlib.Core.Bool.{cond}
@@ -9,6 +9,7 @@ use lib.Ieee.{Float, nan}
 use Rattle.chebyshev.specs.Lists.{listOf}
 use Rattle.units.specs.declared.Metres.{Metres}
 use Rattle.units.specs.declared.Observer.{Observer}
+use Rattle.orbit.specs.declared.fit.Report.{Report}
 use Rattle.orbit.specs.declared.window.ChebyshevOrbit.{ChebyshevOrbit}
 use Rattle.orbit.specs.Propagation.{Motion}
 
@@ -28,6 +29,9 @@ modelIn xs = record { t0 = record { 0 = getD xs 0 nan }; t9 = record { 0 = getD 
 
 abbrev pub motionNumbers : Motion → List Float
 motionNumbers m = m .position .x ∷ m .position .y ∷ m .position .z ∷ m .velocity .x ∷ m .velocity .y ∷ m .velocity .z ∷ []
+
+abbrev pub reportNumbers : Report → List Float
+reportNumbers r = r .clock .0 ∷ r .frequency .0 ∷ r .rmse .0 ∷ []
 
 -- the observer at three lengths in metres
 abbrev pub observerOf : Float → Float → Float → Observer

@@ -1,0 +1,39 @@
+-- The report that is put into the two areas is that of the pass; the areas of the means are as the entry left them. Assumes nothing.
+use Rattle.orbit.specs.Window.{evenTolerance}
+use Rattle.orbit.specs.Fit.{inputsOf, fitIn}
+use Rattle.orbit.specs.Pass.{passReport}
+use Rattle.orbit.specs.declared.fit.Report.{Report}
+use Rattle.orbit_abi.specs.Models.{observerOf, reportNumbers}
+use Rattle.orbit_abi.proofs.Outcomes.{given-as}
+use borrow.Author.Needs.{needs}
+use Rattle.orbit_abi.proofs.fit_entries.orbit_pass.Statement.{statement}
+use Rattle.orbit_abi.proofs.fit_entries.orbit_pass.Tie as tie
+
+pass-requires : tie.Need-pass-requires
+pass-requires c κs = search needs
+
+fitted-into-requires : tie.Need-fitted-into-requires
+fitted-into-requires c κs = search needs
+
+same-length : tie.Need-same-length
+same-length c = search needs
+
+same-length-2 : tie.Need-same-length-2
+same-length-2 c = search needs
+
+returns : tie.Need-returns
+returns c =
+    let call = c .before .before .before .before .before .before in
+    let args = call .before .before .before .before .before .before .args in
+    let inputs = inputsOf evenTolerance (args .instants .now) (args .positions .now) (observerOf (args .ox) (args .oy) (args .oz)) (args .f0) in
+    let outcome = passReport inputs (args .samples .now) (args .frequencies .now) (args .mean-instants .now) (args .mean-frequencies .now) in
+    let found = fitIn (call .pass .result) in
+    let told = c .fitted-into .ensures in
+    let here = call .pass .ensures in
+    let numbers = given-as reportNumbers outcome (args .report .now) found _ _ (told .0, told .1) (here .0) in
+    let counted = given-as (λ (x : Report). x .count) outcome (args .count .now) found _ _ (told .0, told .2) (here .0) in
+    (numbers .0, numbers .1, counted .1, here .1, here .2)
+
+pub orbit-pass-spec : {M : Type 1} → statement M
+orbit-pass-spec =
+    tie.close (tie.spec pass-requires fitted-into-requires same-length same-length-2 returns)

@@ -1,0 +1,98 @@
+// The fit of a recording to a satellite, and the whole pass.
+ghost use mathlib.Core.Path.{_≡_};
+ghost use Rattle.orbit.specs.Window.{evenTolerance};
+ghost use Rattle.orbit.specs.Fit.{inputsOf, satelliteFit, fitIn};
+ghost use Rattle.orbit.specs.Pass.{passReport, passInstants, passFrequencies};
+ghost use Rattle.orbit.specs.declared.fit.Report.{Report};
+ghost use Rattle.orbit_abi.specs.Areas.{refusalIn, areaOf};
+ghost use Rattle.orbit_abi.specs.Models.{observerOf, reportNumbers};
+use orbit::Fitted;
+use units::Hertz;
+use units::Metres;
+use units::Nanoseconds;
+use units::Observer;
+
+// A report's three numbers and its count into their areas, or the refusal.
+fn fitted_into(found: Fitted, report: &mut [f64; 3], count: &mut u64) -> u8
+    ensures { λ r. ⌜ (r ≡ refusalIn (fitIn found)) × (now (report .exit) ≡ areaOf reportNumbers (fitIn found) (now (report .entry))) × (now (count .exit) ≡ areaOf (λ (x : Report). x .count) (fitIn found) (now (count .entry))) ⌝ }
+{
+    match found {
+        Fitted::Fit(f) => {
+            let three = [f.clock.0, f.frequency.0, f.rmse.0];
+            *report = three;
+            *count = f.count as u64;
+            0
+        }
+        Fitted::Refused(refusal) => refusal,
+    }
+}
+
+// Clock offset (seconds), frequency offset and RMSE (hertz) of samples about the instant in nanoseconds of the measured approach, and how many samples there are.
+#[no_mangle]
+pub extern "C" fn orbit_fit_satellite(
+    instants: &[i64],
+    positions: &[f64],
+    samples: &[i64],
+    frequencies: &[f64],
+    ox: f64,
+    oy: f64,
+    oz: f64,
+    f0: f64,
+    measured: i64,
+    report: &mut [f64; 3],
+    count: &mut u64,
+) -> u8
+    ensures { λ r. ⌜ (r ≡ refusalIn (satelliteFit (inputsOf evenTolerance (now (instants .entry)) (now (positions .entry)) (observerOf ox oy oz) f0) (now (samples .entry)) (now (frequencies .entry)) measured)) × (now (report .exit) ≡ areaOf reportNumbers (satelliteFit (inputsOf evenTolerance (now (instants .entry)) (now (positions .entry)) (observerOf ox oy oz) f0) (now (samples .entry)) (now (frequencies .entry)) measured) (now (report .entry))) × (now (count .exit) ≡ areaOf (λ (x : Report). x .count) (satelliteFit (inputsOf evenTolerance (now (instants .entry)) (now (positions .entry)) (observerOf ox oy oz) f0) (now (samples .entry)) (now (frequencies .entry)) measured) (now (count .entry))) ⌝ }
+{
+    let observer = Observer {
+        x: Metres(ox),
+        y: Metres(oy),
+        z: Metres(oz),
+    };
+    let found = orbit::fit_satellite(
+        instants,
+        positions,
+        samples,
+        frequencies,
+        observer,
+        Hertz(f0),
+        Nanoseconds(measured),
+    );
+    fitted_into(found, report, count)
+}
+
+// Clock offset (seconds), frequency offset and RMSE (hertz) of a recording's one-second means, and how many means there are. The means go to the front of their two areas, and stay there under refusal 10.
+#[no_mangle]
+pub extern "C" fn orbit_pass(
+    instants: &[i64],
+    positions: &[f64],
+    samples: &[i64],
+    frequencies: &[f64],
+    ox: f64,
+    oy: f64,
+    oz: f64,
+    f0: f64,
+    mean_instants: &mut [i64],
+    mean_frequencies: &mut [f64],
+    report: &mut [f64; 3],
+    count: &mut u64,
+) -> u8
+    ensures { λ r. ⌜ (r ≡ refusalIn (passReport (inputsOf evenTolerance (now (instants .entry)) (now (positions .entry)) (observerOf ox oy oz) f0) (now (samples .entry)) (now (frequencies .entry)) (now («mean_instants» .entry)) (now («mean_frequencies» .entry)))) × (now (report .exit) ≡ areaOf reportNumbers (passReport (inputsOf evenTolerance (now (instants .entry)) (now (positions .entry)) (observerOf ox oy oz) f0) (now (samples .entry)) (now (frequencies .entry)) (now («mean_instants» .entry)) (now («mean_frequencies» .entry))) (now (report .entry))) × (now (count .exit) ≡ areaOf (λ (x : Report). x .count) (passReport (inputsOf evenTolerance (now (instants .entry)) (now (positions .entry)) (observerOf ox oy oz) f0) (now (samples .entry)) (now (frequencies .entry)) (now («mean_instants» .entry)) (now («mean_frequencies» .entry))) (now (count .entry))) × (now («mean_instants» .exit) ≡ passInstants (inputsOf evenTolerance (now (instants .entry)) (now (positions .entry)) (observerOf ox oy oz) f0) (now (samples .entry)) (now (frequencies .entry)) (now («mean_instants» .entry)) (now («mean_frequencies» .entry))) × (now («mean_frequencies» .exit) ≡ passFrequencies (inputsOf evenTolerance (now (instants .entry)) (now (positions .entry)) (observerOf ox oy oz) f0) (now (samples .entry)) (now (frequencies .entry)) (now («mean_instants» .entry)) (now («mean_frequencies» .entry))) ⌝ }
+{
+    let observer = Observer {
+        x: Metres(ox),
+        y: Metres(oy),
+        z: Metres(oz),
+    };
+    let found = orbit::pass(
+        instants,
+        positions,
+        samples,
+        frequencies,
+        observer,
+        Hertz(f0),
+        mean_instants,
+        mean_frequencies,
+    );
+    fitted_into(found, report, count)
+}
