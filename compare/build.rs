@@ -5,8 +5,8 @@
 use std::path::{Path, PathBuf};
 use std::{env, fs};
 
-/// The header lines of the items that are taken, each at the start of a line.
-const ITEMS: [&str; 7] = [
+/// The header lines of the items that are taken whole, each at the start of a line.
+const ITEMS: [&str; 12] = [
     "pub struct Sp3Coordinate {",
     "pub struct SatelliteOrbit {",
     "impl SatelliteOrbit {",
@@ -14,9 +14,14 @@ const ITEMS: [&str; 7] = [
     "impl ChebyshevOrbit {",
     "fn invert_matrix_10(",
     "fn evaluate_chebyshev(",
+    "pub fn estimate_slant_range(",
+    "pub fn downsample_data(",
+    "pub fn estimate_measured_pca_time(",
+    "pub fn find_pca_time(",
+    "pub fn fit_satellite(",
 ];
 
-/// The words that are struck out of the attributes above an item; nothing else is changed.
+/// The words that are struck out of the attributes above an item.
 const STRUCK_OUT: [&str; 2] = [", serde::Serialize", ", serde::Deserialize"];
 
 fn main() {
@@ -24,7 +29,8 @@ fn main() {
     println!("cargo::rerun-if-changed={}", source.display());
     let text = fs::read_to_string(&source)
         .unwrap_or_else(|error| panic!("cannot read {}: {error}", source.display()));
-    let sliced: String = ITEMS.iter().map(|header| slice(&text, header)).collect();
+    let whole: String = ITEMS.iter().map(|header| slice(&text, header)).collect();
+    let sliced = whole + &orbit_model(&text) + &steepest_slope(&text);
     let output = path_in("OUT_DIR").join("orbit_sliced.rs");
     fs::write(&output, sliced)
         .unwrap_or_else(|error| panic!("cannot write {}: {error}", output.display()));
@@ -56,6 +62,43 @@ fn slice(text: &str, header: &str) -> String {
         attributes_above(&text[..start]),
         &text[start..end]
     )
+}
+
+/// The orbit model with the arm of the tabulated orbit alone, and of its methods the one that propagates.
+fn orbit_model(text: &str) -> String {
+    let model = slice(text, "pub enum OrbitModel {");
+    let methods = slice(text, "impl OrbitModel {");
+    let propagation = part(&methods, "    pub fn propagate_ecef(");
+    format!(
+        "{}impl OrbitModel {{\n{}\n}}\n\n",
+        without_arm(&model, "    Sgp4 {"),
+        without_arm(
+            propagation,
+            "            OrbitModel::Sgp4 { elements, constants } => {"
+        )
+    )
+}
+
+/// The block that works out the steepest slope, made a function of the samples.
+fn steepest_slope(text: &str) -> String {
+    let block = part(text, "        let mut min_slope = 0.0;");
+    format!("fn min_slope(data: &[(DateTime<Utc>, f64)]) -> f64 {{\n{block}\n    min_slope\n}}\n")
+}
+
+/// The text from the one line that starts with the header to the brace that closes the first one after it.
+fn part<'a>(text: &'a str, header: &str) -> &'a str {
+    let start = only_line_starting_with(text, header);
+    let rest = &text[start..];
+    &rest[..length_to_closing_brace(rest, header)]
+}
+
+/// The text without the arm whose first line starts with the header, which ends in the arm's opening brace.
+fn without_arm(text: &str, header: &str) -> String {
+    let start = only_line_starting_with(text, header);
+    let brace = start + header.len() - 1;
+    let end = brace + length_to_closing_brace(&text[brace..], header);
+    let rest = text[end..].trim_start_matches(',');
+    format!("{}{}", &text[..start], rest.trim_start_matches('\n'))
 }
 
 /// Where the one line begins that starts with the header.

@@ -1,13 +1,13 @@
 //! The Chebyshev evaluation and the ten by ten inverse.
 
-use crate::ours;
-use crate::tally::{Tally, Total, same};
+use crate::ours::{self, MARKER};
+use crate::tally::{Tally, Total};
 use crate::timing::{Row, row};
 use compare::inputs::matrices::{self, Matrix};
 use compare::inputs::polynomials::{self, Polynomial};
 use compare::inputs::random::Random;
 use compare::reference;
-use compare::words::{hex, hex_list};
+use compare::words::{hex, hex_list, same};
 use std::hint::black_box;
 
 /// How many polynomials of each random kind.
@@ -15,9 +15,6 @@ const POLYNOMIALS: usize = 20_000;
 
 /// How many matrices of each random kind.
 const MATRICES: usize = 5_000;
-
-/// What the inverse's area holds before our call: no function under comparison writes this.
-const MARKER: u64 = 0x0123_4567_89ab_cdef;
 
 /// Compares the two functions.
 pub fn compare(total: &mut Total) {

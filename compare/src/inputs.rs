@@ -1,7 +1,13 @@
 //! The inputs that both sides are given: a random stream, and for each kind of argument its edges.
 
+pub mod closest;
 pub mod doubles;
+pub mod faults;
 pub mod integers;
 pub mod matrices;
+pub mod orbits;
+pub mod passes;
 pub mod polynomials;
 pub mod random;
+pub mod recordings;
+pub mod tables;

@@ -1,5 +1,9 @@
-//! What the judge and the list of cases share: the Rust's own functions, the inputs, and how numbers are written.
+//! What the judge and the list of cases share: the Rust's own functions, the paper's checks, the inputs, and how numbers are written.
 
+pub mod answers;
+pub mod calls;
+pub mod checks;
+pub mod expected;
 pub mod inputs;
 pub mod reference;
 pub mod words;

@@ -1,21 +1,58 @@
 //! The judge: the Rust's functions and ours on the same inputs, every bit compared, both timed.
 
+// A judge of some groups alone leaves some helpers unused.
+#![cfg_attr(
+    not(all(
+        feature = "orbit",
+        feature = "approach",
+        feature = "means",
+        feature = "fit"
+    )),
+    allow(dead_code)
+)]
+
+#[cfg(feature = "approach")]
+mod approach;
 mod chebyshev;
+mod driver;
+#[cfg(feature = "fit")]
+mod fit;
+#[cfg(feature = "means")]
+mod means;
 mod numbers;
+#[cfg(feature = "orbit")]
+mod orbit;
 mod ours;
 mod tally;
 mod timing;
 
 use std::process::ExitCode;
 use tally::Total;
+use timing::Row;
+
+/// A group of entries: how it is compared, and how it is timed.
+type Group = (fn(&mut Total), fn() -> Vec<Row>);
+
+/// The groups that our library has.
+const GROUPS: &[Group] = &[
+    (numbers::compare, numbers::time),
+    (chebyshev::compare, chebyshev::time),
+    #[cfg(feature = "orbit")]
+    (orbit::compare, orbit::time),
+    #[cfg(feature = "approach")]
+    (approach::compare, approach::time),
+    #[cfg(feature = "means")]
+    (means::compare, means::time),
+    #[cfg(feature = "fit")]
+    (fit::compare, fit::time),
+];
 
 fn main() -> ExitCode {
     let mut total = Total::default();
-    numbers::compare(&mut total);
-    chebyshev::compare(&mut total);
-
-    let mut rows = numbers::time();
-    rows.extend(chebyshev::time());
+    for (compare, _) in GROUPS {
+        compare(&mut total);
+    }
+    let rows: Vec<Row> = GROUPS.iter().flat_map(|(_, time)| time()).collect();
     timing::print(&rows);
 
     println!("compare: {total}");

@@ -1,12 +1,12 @@
 //! The root and the two conversions.
 
 use crate::ours;
-use crate::tally::{Tally, Total, same};
+use crate::tally::{Tally, Total};
 use crate::timing::{Row, row};
 use compare::inputs::random::Random;
 use compare::inputs::{doubles, integers};
 use compare::reference;
-use compare::words::{hex, hex_whole};
+use compare::words::{hex, hex_whole, same};
 
 /// How many random bit patterns each function gets.
 const PATTERNS: usize = 2_000_000;

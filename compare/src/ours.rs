@@ -1,7 +1,23 @@
 //! Our side: the functions of the static library, with the signatures of its C interface.
 
+#[cfg(feature = "approach")]
+pub mod approach;
+#[cfg(any(feature = "means", feature = "fit"))]
+mod areas;
+#[cfg(feature = "fit")]
+pub mod fit;
+#[cfg(feature = "means")]
+pub mod means;
+#[cfg(feature = "orbit")]
+pub mod orbit;
+
+use compare::answers::Answer;
 use compare::inputs::matrices::Matrix;
 use compare::inputs::polynomials::Polynomial;
+use compare::words::Word;
+
+/// What each place that is lent for a result holds before a call: no function under comparison writes this.
+pub const MARKER: u64 = 0x0123_4567_89ab_cdef;
 
 /// The refusal's number of an inverse whose pivot is too small.
 pub const PIVOT_TOO_SMALL: u8 = 8;
@@ -45,4 +61,26 @@ pub fn value_and_slope(polynomial: &Polynomial) -> (f64, f64) {
 /// The refusal's number, 0 if there is none; then the inverse is written to the lent area.
 pub fn invert(rows: &Matrix, inverse: &mut Matrix) -> u8 {
     orbit_invert_matrix_10(rows, inverse)
+}
+
+/// A place lent for a double.
+fn marked_double() -> f64 {
+    f64::from_bits(MARKER)
+}
+
+/// A place lent for a whole number.
+fn marked_whole() -> i64 {
+    MARKER as i64
+}
+
+/// Our answer from the refusal's number and the places lent for results; on a refusal they must be as they were.
+fn answer(refusal: u8, places: Vec<Word>) -> Answer {
+    let untouched = places.iter().all(|place| place.bits() == MARKER);
+    if refusal != 0 && untouched {
+        return Answer::refused(refusal);
+    }
+    Answer {
+        refusal: Some(refusal),
+        ..Answer::answered(places)
+    }
 }

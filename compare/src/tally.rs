@@ -1,14 +1,10 @@
-//! When two answers are the same, and the counts of those that are not.
+//! The counts of the answers that were compared and of those that differ.
 
+use std::collections::BTreeMap;
 use std::fmt;
 
 /// How many differences of one name are shown.
 const SHOWN: u64 = 5;
-
-/// The same bits, any NaN counting as NaN.
-pub fn same(a: f64, b: f64) -> bool {
-    a.to_bits() == b.to_bits() || a.is_nan() && b.is_nan()
-}
 
 /// How many answers were compared, and how many of them differ.
 #[derive(Default)]
@@ -29,16 +25,18 @@ impl fmt::Display for Total {
 
 /// The counts of one function under comparison.
 pub struct Tally {
-    name: &'static str,
+    name: String,
     total: Total,
+    notes: BTreeMap<String, u64>,
 }
 
 impl Tally {
     /// No comparison yet.
-    pub fn new(name: &'static str) -> Self {
+    pub fn new(name: impl Into<String>) -> Self {
         Tally {
-            name,
+            name: name.into(),
             total: Total::default(),
+            notes: BTreeMap::new(),
         }
     }
 
@@ -54,9 +52,16 @@ impl Tally {
         }
     }
 
+    /// Counts a comparison of which this can be said, so that the counts show what the inputs reached.
+    pub fn note(&mut self, what: impl Into<String>) {
+        *self.notes.entry(what.into()).or_default() += 1;
+    }
+
     /// Prints the counts, and adds them to those of the whole run.
     pub fn finish(self, whole: &mut Total) {
-        println!("{}: {}", self.name, self.total);
+        let notes = self.notes.iter();
+        let notes: String = notes.map(|(what, n)| format!("; {what}: {n}")).collect();
+        println!("{}: {}{notes}", self.name, self.total);
         whole.compared += self.total.compared;
         whole.differing += self.total.differing;
     }

@@ -9,11 +9,11 @@ const ROUNDS: usize = 9;
 /// How long a round lasts at least.
 const ROUND: Duration = Duration::from_millis(20);
 
-/// The nanoseconds of a call of one function on both sides.
+/// The nanoseconds of a call of one function on both sides, or on ours alone.
 pub struct Row {
     name: &'static str,
     ours: f64,
-    rust: f64,
+    rust: Option<f64>,
 }
 
 /// Times one function on both sides.
@@ -32,25 +32,38 @@ pub fn row<I, A, B>(
     Row {
         name,
         ours: middle(our_rounds),
-        rust: middle(rust_rounds),
+        rust: Some(middle(rust_rounds)),
+    }
+}
+
+/// Times something that the Rust does not do.
+pub fn row_of_ours<I, A>(name: &'static str, inputs: &[I], mut ours: impl FnMut(&I) -> A) -> Row {
+    let rounds = (0..ROUNDS).map(|_| round(inputs, &mut ours));
+    Row {
+        name,
+        ours: middle(rounds.collect()),
+        rust: None,
     }
 }
 
 /// Prints the table.
 pub fn print(rows: &[Row]) {
     println!();
-    println!(
-        "{:30}{:>12}{:>12}{:>14}",
-        "ns per call", "ours", "Rust", "ours / Rust"
-    );
+    print_line(["ns per call", "ours", "Rust", "ours / Rust"]);
     for row in rows {
-        let ratio = row.ours / row.rust;
-        println!(
-            "{:30}{:12.2}{:12.2}{ratio:14.2}",
-            row.name, row.ours, row.rust
-        );
+        let number = |x: f64| format!("{x:.2}");
+        let rust = row.rust.map_or(String::new(), number);
+        let ratio = row
+            .rust
+            .map_or(String::new(), |rust| number(row.ours / rust));
+        print_line([row.name, &number(row.ours), &rust, &ratio]);
     }
     println!();
+}
+
+/// Prints one line of the table.
+fn print_line([name, ours, rust, ratio]: [&str; 4]) {
+    println!("{name:36}{ours:>14}{rust:>14}{ratio:>14}");
 }
 
 /// The nanoseconds of a call in one round, which goes through all inputs again and again.

@@ -30,6 +30,24 @@ impl Random {
         low + self.below((high - low + 1) as usize) as i32
     }
 
+    /// A count from `low` to `high`, both included.
+    pub fn count(&mut self, low: i64, high: i64) -> i64 {
+        let width = high.wrapping_sub(low) as u64;
+        low.wrapping_add((self.bits() % (width + 1)) as i64)
+    }
+
+    /// Whether the one chance in so many came.
+    pub fn one_in(&mut self, chances: usize) -> bool {
+        self.below(chances) == 0
+    }
+
+    /// The list in any order.
+    pub fn shuffle<T>(&mut self, list: &mut [T]) {
+        for k in 1..list.len() {
+            list.swap(k, self.below(k + 1));
+        }
+    }
+
     /// A double from `low` up to `high`.
     pub fn between(&mut self, low: f64, high: f64) -> f64 {
         let unit = (self.bits() >> 11) as f64 / (1u64 << 53) as f64;

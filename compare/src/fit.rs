@@ -1,0 +1,158 @@
+//! The fit and the pass.
+
+use crate::driver::{Ours, compare as compare_call, compare_refusals};
+use crate::ours::fit as ours;
+use crate::tally::{Tally, Total};
+use crate::timing::{Row, row};
+use compare::calls::{Call, Entry};
+use compare::checks::SAMPLES;
+use compare::inputs::passes::{self, Size};
+use compare::inputs::random::Random;
+use compare::reference;
+use std::hint::black_box;
+
+/// How many calls of each kind.
+const CALLS: usize = 30;
+
+/// How many calls whose clock offset is known.
+const KNOWN: usize = 40;
+
+/// The numbers of samples of the long calls, and how many of each.
+const LONG: [usize; 2] = [1312, SAMPLES];
+const LONG_CALLS: usize = 6;
+
+/// How near a clock offset must be found: the search's last step, in seconds.
+const LAST_STEP: f64 = 0.00001;
+
+/// Compares the two entries.
+pub fn compare(total: &mut Total) {
+    compare_calls(total, Entry::FitSatellite, ours::fit, 60);
+    compare_calls(total, Entry::Pass, ours::pass, 61);
+    compare_refusals(total, Entry::FitSatellite, ours::fit);
+    compare_refusals(total, Entry::Pass, ours::pass);
+}
+
+/// Every kind of call, those whose clock offset is known, and long ones.
+fn compare_calls(total: &mut Total, entry: Entry, ours: Ours, seed: u64) {
+    let mut tally = Tally::new(entry.name());
+    let mut random = Random::new(seed);
+    for draw in passes::KINDS {
+        for _ in 0..CALLS {
+            let size = Size {
+                rows: 40,
+                samples: count(&mut random),
+            };
+            let call = draw(&mut random, size);
+            compare_call(&mut tally, entry, ours, &call);
+        }
+    }
+    for k in 0..KNOWN {
+        let samples = 40 + random.below(560);
+        compare_known(&mut tally, entry, ours, &mut random, samples, k % 2 == 1);
+    }
+    for samples in LONG {
+        for k in 0..LONG_CALLS {
+            compare_known(&mut tally, entry, ours, &mut random, samples, k % 3 == 2);
+        }
+    }
+    tally.finish(total);
+}
+
+/// How many samples: mostly few, up to 600.
+fn count(random: &mut Random) -> usize {
+    match random.below(10) {
+        0 => 1 + random.below(600),
+        1..4 => 1 + random.below(150),
+        4 => 1 + random.below(4),
+        _ => 1 + random.below(40),
+    }
+}
+
+/// So many samples, one to the second, and a table that is long enough for them.
+fn long_enough(samples: usize) -> Size {
+    Size {
+        rows: 30 + samples / 60,
+        samples,
+    }
+}
+
+/// A call without noise: counted too is whether the search finds the clock offset to its last step.
+fn compare_known(
+    tally: &mut Tally,
+    entry: Entry,
+    ours: Ours,
+    random: &mut Random,
+    samples: usize,
+    uneven: bool,
+) {
+    let (call, late) = passes::known(random, long_enough(samples), uneven);
+    let expected = compare_call(tally, entry, ours, &call);
+    tally.note("with a known clock offset");
+    let found = expected
+        .results
+        .first()
+        .map(|word| f64::from_bits(word.bits()));
+    if found.is_some_and(|found| (found - late).abs() <= LAST_STEP) {
+        tally.note("with a known clock offset, found to 10 µs");
+    }
+}
+
+/// Times the fit of 600 and of 1,312 samples with even and uneven tables, and a pass.
+pub fn time() -> Vec<Row> {
+    let mut rows = Vec::new();
+    for (name, samples, uneven) in [
+        ("fit_satellite, 600 even", 600, false),
+        ("fit_satellite, 1312 even", 1312, false),
+        ("fit_satellite, 600 uneven", 600, true),
+        ("fit_satellite, 1312 uneven", 1312, true),
+    ] {
+        rows.push(time_fit(name, samples, uneven));
+    }
+    rows.push(time_pass());
+    rows
+}
+
+/// A call whose clock is so little late that there is one centre alone: 603 candidates.
+fn timed_call(samples: usize, uneven: bool) -> Call {
+    let mut random = Random::new(62);
+    loop {
+        let (call, late) = passes::known(&mut random, long_enough(samples), uneven);
+        if late.abs() < 4.0 {
+            return call;
+        }
+    }
+}
+
+/// The fit of one call.
+fn time_fit(name: &'static str, samples: usize, uneven: bool) -> Row {
+    let call = timed_call(samples, uneven);
+    let orbit = reference::orbit(&call.table);
+    let samples = reference::samples(&call.recording);
+    let measured = reference::instant(call.instant);
+    let (mut report, mut count) = ([0.0; 3], 0);
+    row(
+        name,
+        &[()],
+        |()| ours::write_fit(&call, black_box(&mut report), &mut count),
+        |()| reference::fit(&orbit, &samples, call.observer, call.centre, measured),
+    )
+}
+
+/// The pass of one call with as many means as samples.
+fn time_pass() -> Row {
+    let call = timed_call(600, false);
+    let orbit = reference::orbit(&call.table);
+    let samples = reference::samples(&call.recording);
+    let mut instants = [0; SAMPLES];
+    let mut frequencies = [0.0; SAMPLES];
+    let (mut report, mut count) = ([0.0; 3], 0);
+    row(
+        "pass, 600 even",
+        &[()],
+        |()| {
+            let areas = black_box((&mut instants, &mut frequencies));
+            ours::write_pass(&call, areas.0, areas.1, &mut report, &mut count)
+        },
+        |()| reference::pass(&orbit, &samples, call.observer, call.centre),
+    )
+}

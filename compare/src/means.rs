@@ -1,0 +1,83 @@
+//! The means by the second.
+
+use crate::driver::{compare as compare_call, compare_refusals};
+use crate::ours::means as ours;
+use crate::tally::{Tally, Total};
+use crate::timing::{Row, row};
+use compare::calls::{Call, Entry};
+use compare::checks::SAMPLES;
+use compare::inputs::random::Random;
+use compare::inputs::recordings::{self, FREQUENCIES, INSTANTS, Recording};
+use compare::inputs::tables::{PRESENT, SECOND};
+use compare::reference;
+use std::hint::black_box;
+
+/// How many recordings of each sort of instants with each sort of frequencies.
+const RECORDINGS: usize = 300;
+
+/// Compares the entry.
+pub fn compare(total: &mut Total) {
+    compare_means(total);
+    compare_refusals(total, Entry::DownsampleData, ours::means);
+}
+
+/// The means of every sort of recording, in areas that are often longer than needed.
+fn compare_means(total: &mut Total) {
+    let mut tally = Tally::new("downsample_data");
+    let mut random = Random::new(50);
+    for instants in INSTANTS {
+        for frequencies in FREQUENCIES {
+            for _ in 0..RECORDINGS {
+                let recording = recordings::draw(&mut random, instants, frequencies);
+                let samples = recording.instants.len();
+                let call = Call {
+                    recording,
+                    areas: [(); 2].map(|_| samples + random.below(6)),
+                    ..Call::default()
+                };
+                let expected = compare_call(&mut tally, Entry::DownsampleData, ours::means, &call);
+                if expected.areas.iter().any(|word| word.is_nan()) {
+                    tally.note("with a NaN among the means");
+                }
+                if (expected.results[0].bits() as usize) < samples {
+                    tally.note("with fewer means than samples");
+                }
+            }
+        }
+    }
+    tally.finish(total);
+}
+
+/// Times the means of as many samples as there may be, ten to the second: in order and in any order.
+pub fn time() -> Vec<Row> {
+    let mut random = Random::new(51);
+    let steps = 0..SAMPLES as i64;
+    let in_order: Vec<i64> = steps.map(|k| PRESENT + k * SECOND / 10).collect();
+    let mut shuffled = in_order.clone();
+    random.shuffle(&mut shuffled);
+    vec![
+        time_means(&mut random, "downsample_data, 4096 in order", in_order),
+        time_means(&mut random, "downsample_data, 4096 shuffled", shuffled),
+    ]
+}
+
+/// The means of samples at these instants.
+fn time_means(random: &mut Random, name: &'static str, instants: Vec<i64>) -> Row {
+    let recording = Recording {
+        frequencies: recordings::falling(random, &instants),
+        instants,
+    };
+    let samples = reference::samples(&recording);
+    let mut instants = [0; SAMPLES];
+    let mut frequencies = [0.0; SAMPLES];
+    let mut count = 0;
+    row(
+        name,
+        &[()],
+        |()| {
+            let areas = black_box((&mut instants, &mut frequencies));
+            ours::write_means(&recording, areas.0, areas.1, black_box(&mut count))
+        },
+        |()| reference::means(&samples),
+    )
+}

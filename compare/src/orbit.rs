@@ -1,0 +1,244 @@
+//! The tabulated orbit: model, evaluation, propagation and closest approach.
+
+use crate::driver::{compare as compare_call, compare_refusals};
+use crate::ours::orbit as ours;
+use crate::tally::{Tally, Total};
+use crate::timing::{Row, row, row_of_ours};
+use chrono::{DateTime, Utc};
+use compare::answers::Answer;
+use compare::calls::{Call, Entry};
+use compare::inputs::closest;
+use compare::inputs::integers::INSTANT_LIMIT;
+use compare::inputs::orbits::Orbit;
+use compare::inputs::random::Random;
+use compare::inputs::tables::{self, PRESENT, SECOND, SPACINGS, Spacing, Table};
+use compare::inputs::{doubles, polynomials};
+use compare::reference::{self, OrbitModel};
+use std::hint::black_box;
+
+/// How many tables of each spacing; each is asked for twelve instants.
+const TABLES: usize = 400;
+
+/// How many models that no table made.
+const MODELS: usize = 20_000;
+
+/// How many closest approaches of each kind.
+const CLOSEST: usize = 1_500;
+
+/// How many different instants or calls are timed.
+const TIMED: usize = 64;
+
+/// Compares the four entries.
+pub fn compare(total: &mut Total) {
+    compare_tables(total);
+    compare_models(total);
+    compare_closest(total);
+    compare_refusals(total, Entry::GetChebyshevModel, ours::model);
+    compare_refusals(total, Entry::Evaluate, ours::evaluation);
+    compare_refusals(total, Entry::PropagateEcef, ours::propagation);
+    compare_refusals(total, Entry::FindPcaTime, ours::closest);
+}
+
+/// Model and propagation by every spacing of tables, and the evaluation of the models.
+fn compare_tables(total: &mut Total) {
+    let mut models = Tally::new("get_chebyshev_model");
+    let mut propagations = Tally::new("propagate_ecef");
+    let mut evaluations = Tally::new("evaluate (models of tables)");
+    let mut random = Random::new(30);
+    for spacing in SPACINGS {
+        for _ in 0..TABLES {
+            for call in calls_of_a_table(&mut random, spacing) {
+                let entry = Entry::GetChebyshevModel;
+                let model = compare_call(&mut models, entry, ours::model, &call);
+                let entry = Entry::PropagateEcef;
+                compare_call(&mut propagations, entry, ours::propagation, &call);
+                if let Some(call) = by_model(&mut random, &call, &model) {
+                    let entry = Entry::Evaluate;
+                    compare_call(&mut evaluations, entry, ours::evaluation, &call);
+                }
+            }
+        }
+    }
+    models.finish(total);
+    propagations.finish(total);
+    evaluations.finish(total);
+}
+
+/// A table of this spacing with each of the instants asked of it.
+fn calls_of_a_table(random: &mut Random, spacing: Spacing) -> [Call; 12] {
+    let table = tables::draw(random, spacing);
+    tables::asked(random, &table).map(|instant| Call {
+        table: table.clone(),
+        instant,
+        ..Call::default()
+    })
+}
+
+/// The evaluation of the model that was answered, if there is one: at the same instant or at another.
+fn by_model(random: &mut Random, call: &Call, model: &Answer) -> Option<Call> {
+    let numbers = model.results.iter().map(|word| f64::from_bits(word.bits()));
+    let numbers: Vec<f64> = numbers.collect();
+    Some(Call {
+        model: numbers.try_into().ok()?,
+        instant: random.pick(&[call.instant, call.instant / 2, -call.instant]),
+        ..Call::default()
+    })
+}
+
+/// The evaluation of models that no table made: any numbers, and ordinary ones with special end times.
+fn compare_models(total: &mut Total) {
+    let mut tally = Tally::new("evaluate (any model)");
+    let mut random = Random::new(31);
+    for _ in 0..MODELS {
+        let draw = random.pick(&polynomials::KINDS);
+        let mut call = Call {
+            instant: random.count(-INSTANT_LIMIT, INSTANT_LIMIT) >> random.below(62),
+            ..Call::default()
+        };
+        for row in call.model[2..].as_chunks_mut::<10>().0 {
+            *row = draw(&mut random).coefficients;
+        }
+        call.model[..2].copy_from_slice(&end_times(&mut random, call.instant));
+        compare_call(&mut tally, Entry::Evaluate, ours::evaluation, &call);
+    }
+    tally.finish(total);
+}
+
+/// Two end times about an instant, or special ones.
+fn end_times(random: &mut Random, instant: i64) -> [f64; 2] {
+    let seconds = instant as f64 * 1e-9;
+    let special = doubles::special();
+    [(); 2].map(|_| {
+        let near = seconds + random.between(-1e4, 1e4);
+        let strange = random.pick(&special);
+        random.pick(&[near, near, near, near, near, seconds, strange])
+    })
+}
+
+/// The closest approach of every kind.
+fn compare_closest(total: &mut Total) {
+    let mut tally = Tally::new("find_pca_time");
+    let mut random = Random::new(32);
+    for draw in closest::KINDS {
+        for _ in 0..CLOSEST {
+            let call = draw(&mut random);
+            let expected = compare_call(&mut tally, Entry::FindPcaTime, ours::closest, &call);
+            if expected.results[0].bits() == call.instant as u64 {
+                tally.note("at the given instant");
+            }
+        }
+    }
+    tally.finish(total);
+}
+
+/// Times the entries: short and long tables, even and uneven; and the checks of a propagation apart.
+pub fn time() -> Vec<Row> {
+    let mut rows = Vec::new();
+    rows.push(time_model());
+    rows.push(time_evaluation());
+    for (name, length, uneven) in [
+        ("propagate_ecef, 10 rows even", 10, false),
+        ("propagate_ecef, 4096 rows even", 4096, false),
+        ("propagate_ecef, 10 rows uneven", 10, true),
+        ("propagate_ecef, 4096 rows uneven", 4096, true),
+    ] {
+        rows.push(time_propagation(name, length, uneven));
+    }
+    rows.push(time_checks("its checks alone, 10 rows", 10));
+    rows.push(time_checks("its checks alone, 4096 rows", 4096));
+    rows.push(time_closest("find_pca_time, 180 rows even", false));
+    rows.push(time_closest("find_pca_time, 180 rows uneven", true));
+    rows
+}
+
+/// A table of so many rows, a minute apart.
+fn timed_table(random: &mut Random, rows: usize, uneven: bool) -> Table {
+    let orbit = Orbit::low(random);
+    let gap = 60 * SECOND;
+    if uneven {
+        Table::uneven(random, &orbit, PRESENT, gap, rows)
+    } else {
+        Table::even(&orbit, PRESENT, gap, rows)
+    }
+}
+
+/// Instants in a table, as both sides take them.
+fn timed_instants(random: &mut Random, table: &Table) -> Vec<(i64, DateTime<Utc>)> {
+    let (first, last) = (table.instants[0], table.instants[table.instants.len() - 1]);
+    let instants = (0..TIMED).map(|_| random.count(first, last));
+    instants.map(|n| (n, reference::instant(n))).collect()
+}
+
+/// The model by a short even table.
+fn time_model() -> Row {
+    let mut random = Random::new(33);
+    let table = timed_table(&mut random, 10, false);
+    let orbit = reference::orbit(&table);
+    let instants = timed_instants(&mut random, &table);
+    let mut model = [0.0; 32];
+    row(
+        "get_chebyshev_model, 10 rows even",
+        &instants,
+        |&(n, _)| ours::write_model(&table, n, black_box(&mut model)),
+        |&(_, instant)| reference::model(&orbit, instant),
+    )
+}
+
+/// The evaluation of one model.
+fn time_evaluation() -> Row {
+    let mut random = Random::new(34);
+    let table = timed_table(&mut random, 10, false);
+    let instants = timed_instants(&mut random, &table);
+    let model = reference::model(&reference::orbit(&table), instants[0].1);
+    let model = model.expect("an even table has a model");
+    let numbers = reference::numbers(&model);
+    let mut motion = [0.0; 6];
+    row(
+        "evaluate",
+        &instants,
+        |&(n, _)| ours::write_evaluation(&numbers, n, black_box(&mut motion)),
+        |&(_, instant)| reference::evaluate(&model, instant),
+    )
+}
+
+/// The propagation, as it is called: ours with its checks of the whole table.
+fn time_propagation(name: &'static str, rows: usize, uneven: bool) -> Row {
+    let mut random = Random::new(35);
+    let table = timed_table(&mut random, rows, uneven);
+    let orbit = reference::orbit(&table);
+    let instants = timed_instants(&mut random, &table);
+    let mut motion = [0.0; 6];
+    row(
+        name,
+        &instants,
+        |&(n, _)| ours::write_propagation(&table, n, black_box(&mut motion)),
+        |&(_, instant)| reference::propagate(&orbit, instant),
+    )
+}
+
+/// A table whose very last component is wrong: all checks are made, and nothing else.
+fn time_checks(name: &'static str, rows: usize) -> Row {
+    let mut table = timed_table(&mut Random::new(36), rows, false);
+    *table.positions.last_mut().expect("a table has rows") = f64::NAN;
+    let mut motion = [0.0; 6];
+    row_of_ours(name, &[PRESENT], |&n| {
+        ours::write_propagation(&table, n, black_box(&mut motion))
+    })
+}
+
+/// The closest approach of satellites that pass overhead.
+fn time_closest(name: &'static str, uneven: bool) -> Row {
+    let mut random = Random::new(37);
+    let draw = [closest::overhead, closest::overhead_unevenly][usize::from(uneven)];
+    let calls: Vec<(Call, OrbitModel)> = (0..TIMED)
+        .map(|_| draw(&mut random))
+        .map(|call| (call.clone(), reference::orbit(&call.table)))
+        .collect();
+    let mut found = 0;
+    row(
+        name,
+        &calls,
+        |(call, _)| ours::write_closest(call, black_box(&mut found)),
+        |(call, orbit)| reference::closest(orbit, call.observer, reference::instant(call.instant)),
+    )
+}

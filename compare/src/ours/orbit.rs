@@ -1,0 +1,124 @@
+//! The tabulated orbit: model, evaluation, propagation, closest approach.
+
+use super::{answer, marked_double, marked_whole};
+use compare::answers::{Answer, doubles};
+use compare::calls::Call;
+use compare::inputs::tables::Table;
+use compare::words::Word;
+
+// A slice is a pointer and its length; each reference is one plain pointer to all of its doubles.
+unsafe extern "C" {
+    fn orbit_get_chebyshev_model(
+        instants: *const i64,
+        instants_length: usize,
+        positions: *const f64,
+        positions_length: usize,
+        instant: i64,
+        model: &mut [f64; 32],
+    ) -> u8;
+    safe fn orbit_evaluate(model: &[f64; 32], instant: i64, motion: &mut [f64; 6]) -> u8;
+    fn orbit_propagate_ecef(
+        instants: *const i64,
+        instants_length: usize,
+        positions: *const f64,
+        positions_length: usize,
+        instant: i64,
+        motion: &mut [f64; 6],
+    ) -> u8;
+    fn orbit_find_pca_time(
+        instants: *const i64,
+        instants_length: usize,
+        positions: *const f64,
+        positions_length: usize,
+        x: f64,
+        y: f64,
+        z: f64,
+        instant: i64,
+        found: &mut i64,
+    ) -> u8;
+}
+
+/// The refusal's number, 0 if there is none; then the model is written.
+pub fn write_model(table: &Table, instant: i64, model: &mut [f64; 32]) -> u8 {
+    let (instants, positions) = (&table.instants, &table.positions);
+    // SAFETY: each pointer is to as many numbers as its length says.
+    unsafe {
+        orbit_get_chebyshev_model(
+            instants.as_ptr(),
+            instants.len(),
+            positions.as_ptr(),
+            positions.len(),
+            instant,
+            model,
+        )
+    }
+}
+
+/// The refusal's number, 0 if there is none; then position and velocity by a model are written.
+pub fn write_evaluation(model: &[f64; 32], instant: i64, motion: &mut [f64; 6]) -> u8 {
+    orbit_evaluate(model, instant, motion)
+}
+
+/// The refusal's number, 0 if there is none; then position and velocity by a table are written.
+pub fn write_propagation(table: &Table, instant: i64, motion: &mut [f64; 6]) -> u8 {
+    let (instants, positions) = (&table.instants, &table.positions);
+    // SAFETY: each pointer is to as many numbers as its length says.
+    unsafe {
+        orbit_propagate_ecef(
+            instants.as_ptr(),
+            instants.len(),
+            positions.as_ptr(),
+            positions.len(),
+            instant,
+            motion,
+        )
+    }
+}
+
+/// The refusal's number, 0 if there is none; then the instant of the closest approach is written.
+pub fn write_closest(call: &Call, found: &mut i64) -> u8 {
+    let (instants, positions) = (&call.table.instants, &call.table.positions);
+    let [x, y, z] = call.observer;
+    // SAFETY: each pointer is to as many numbers as its length says.
+    unsafe {
+        orbit_find_pca_time(
+            instants.as_ptr(),
+            instants.len(),
+            positions.as_ptr(),
+            positions.len(),
+            x,
+            y,
+            z,
+            call.instant,
+            found,
+        )
+    }
+}
+
+/// The answer of `get_chebyshev_model`.
+pub fn model(call: &Call) -> Answer {
+    let mut model = [marked_double(); 32];
+    let refusal = write_model(&call.table, call.instant, &mut model);
+    answer(refusal, doubles(&model))
+}
+
+/// The answer of `evaluate`.
+pub fn evaluation(call: &Call) -> Answer {
+    let mut motion = [marked_double(); 6];
+    let refusal = write_evaluation(&call.model, call.instant, &mut motion);
+    answer(refusal, doubles(&motion))
+}
+
+/// The answer of `propagate_ecef`.
+pub fn propagation(call: &Call) -> Answer {
+    let mut motion = [marked_double(); 6];
+    let refusal = write_propagation(&call.table, call.instant, &mut motion);
+    answer(refusal, doubles(&motion))
+}
+
+/// The answer of `find_pca_time`.
+pub fn closest(call: &Call) -> Answer {
+    let mut found = marked_whole();
+    let refusal = write_closest(call, &mut found);
+    answer(refusal, vec![Word::Whole(found)])
+}
