@@ -20,7 +20,9 @@ pub fn cases() -> Vec<(Entry, Call)> {
         list.extend(calls.map(|call| (entry, call)));
         list.extend(faulty::calls(&mut random, entry, true));
     }
-    list.push((Entry::SteepestSlope, too_many()));
+    for count in [SAMPLES, SAMPLES + 1] {
+        list.push((Entry::SteepestSlope, of_count(count)));
+    }
     let calls = ranges(&mut random).into_iter();
     list.extend(calls.map(|call| (Entry::EstimateSlantRange, call)));
     list
@@ -86,10 +88,10 @@ fn slopes(random: &mut Random) -> Vec<Call> {
     list
 }
 
-/// One sample more than there may be.
-fn too_many() -> Call {
-    let instants: Vec<i64> = (0..=SAMPLES as i64).collect();
-    call_of(&instants, &vec![1.0; instants.len()])
+/// So many samples, a nanosecond apart.
+fn of_count(count: usize) -> Call {
+    let instants: Vec<i64> = (0..count as i64).collect();
+    call_of(&instants, &vec![1.0; count])
 }
 
 /// The paper's slope, its neighbours, special numbers, then ordinary ones and patterns.
