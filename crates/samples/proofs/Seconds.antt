@@ -6,11 +6,10 @@ use mathlib.Core.List.{List, [], _∷_, _++_, map, List·Memᴰ, List·Memᴰ·h
 use Prim.Native.Nat.{ℕ, suc, _≤_, _<_}
 use native.Mathlib.Omega.{arith}
 use lib.Dec.{T}
-use lib.IntN.{ℤ, pos, natAbs}
+use lib.IntN.{ℤ}
 use lib.Signed.{ltZ, _<ℤ_, ltZ-yes, ltZ-no, <ℤ-irrefl}
-use lib.ListN.{length, getD, length-map}
-use lib.Ieee.{fin}
-use Rattle.samples.specs.Means.{Sample, wholeSecond, eqZ, bin, Alike, insert, seconds, meanOf, means, instants}
+use lib.ListN.{length, length-map}
+use Rattle.samples.specs.Means.{Sample, wholeSecond, eqZ, bin, Alike, insert, seconds, meanOf, means}
 use Rattle.samples.proofs.Parts.{le-parts, lt-parts, parts-lt, parts-eq}
 use Rattle.samples.proofs.Starts.{eqZ→eq, eqZ-refl}
 
@@ -237,24 +236,3 @@ swap-first x y S n s = go (eqZ (wholeSecond (x .instant)) s) (eqZ (wholeSecond (
 -- neighbours of two different seconds may change places, anywhere
 pub swap : (P : List Sample) (x y : Sample) (S : List Sample) → wholeSecond (x .instant) ≢ wholeSecond (y .instant) → Alike (P ++ x ∷ y ∷ S) (P ++ y ∷ x ∷ S)
 swap P x y S n s = bin-append s P (x ∷ y ∷ S) ∙ ap (λ (b : List Sample). bin s P ++ b) (swap-first x y S n s) ∙ sym (bin-append s P (y ∷ x ∷ S))
-
--- a worked pair: the same samples of two seconds, mixed in two ways, at 0.0, 1.0, 0.5 and 1.5 seconds with 401, 403, 405 and 407 Hz
-abbrev sampleAt : ℕ → ℕ → Sample
-sampleAt t f = record { instant = pos t; frequency = fin false f (pos 0) }
-
-abbrev pub mixed : List Sample
-mixed = sampleAt 0 401 ∷ sampleAt 1000000000 403 ∷ sampleAt 500000000 405 ∷ sampleAt 1500000000 407 ∷ []
-
-abbrev pub mixedOtherwise : List Sample
-mixedOtherwise = sampleAt 1000000000 403 ∷ sampleAt 0 401 ∷ sampleAt 1500000000 407 ∷ sampleAt 500000000 405 ∷ []
-
-zero-ne-one : pos 0 ≢ pos 1
-zero-ne-one e = let z : _≡_ {A = ℕ} 0 1 = cc in omega arith
-
--- they are alike in every second
-pub mixed-alike : Alike mixed mixedOtherwise
-mixed-alike s = swap [] (sampleAt 0 401) (sampleAt 1000000000 403) (sampleAt 500000000 405 ∷ sampleAt 1500000000 407 ∷ []) zero-ne-one s ∙ swap (sampleAt 1000000000 403 ∷ sampleAt 0 401 ∷ []) (sampleAt 500000000 405) (sampleAt 1500000000 407) [] zero-ne-one s
-
--- and not the same recording
-pub mixed-differ : mixed ≢ mixedOtherwise
-mixed-differ e = let z : _≡_ {A = ℕ} 0 1000000000 = ap (λ (l : List Sample). natAbs (getD (instants l) 0 (pos 0))) e in omega arith
