@@ -5,18 +5,19 @@ use mathlib.Core.List.{List}
 use lib.IntN.{ℤ, pos, natAbs}
 use lib.ListN.{length, getD}
 use lib.Ieee.{Float}
+use Rattle.checks.specs.Limits.{mostSamples, farthestInstant}
 use Rattle.orbit.specs.Table.{Table}
 
 pub record Fitting (instants : List ℤ) (positions : List Float) (samples : List ℤ) (frequencies values : List Float) : Type 0 where
   pub table : Table instants positions
   pub same : length frequencies ≡ length samples
-  pub few : length samples ≤ 4096
-  pub near : (k : ℕ) → natAbs (getD samples k (pos 0)) ≤ 4000000000000000000
+  pub few : length samples ≤ mostSamples
+  pub near : (k : ℕ) → natAbs (getD samples k (pos 0)) ≤ farthestInstant
   pub room : length samples ≤ length values
 
 -- samples that passed their checks
 pub record Sampled (samples : List ℤ) (frequencies : List Float) : Type 0 where
   pub some : 0 < length samples
-  pub few : length samples ≤ 4096
+  pub few : length samples ≤ mostSamples
   pub same : length frequencies ≡ length samples
-  pub near : (k : ℕ) → natAbs (getD samples k (pos 0)) ≤ 4000000000000000000
+  pub near : (k : ℕ) → natAbs (getD samples k (pos 0)) ≤ farthestInstant

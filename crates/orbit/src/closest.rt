@@ -2,6 +2,7 @@
 ghost use mathlib.Core.Path.{_≡_};
 ghost use Prim.Native.Nat.{_+_, _*_, _≤_};
 ghost use lib.IntN.{ℤ, pos, natAbs, _+ℤ_};
+ghost use Rattle.checks.specs.Limits.{farthestInstant};
 ghost use Rattle.orbit.specs.Table.{Table};
 ghost use Rattle.orbit.specs.Propagation.{propagated};
 ghost use Rattle.orbit.specs.Closest.{squaredRange, later, nearer, seekNearest, closestInstant, closestApproach, closestIn};
@@ -36,7 +37,7 @@ fn squared_range(p: Position, o: Observer) -> f64
 
 // An instant moved by whole seconds.
 fn moved_by_seconds(t: i64, offset: i64) -> i64
-    requires { ⌜ (natAbs t ≤ 4000000000000000000) × (natAbs offset ≤ 10000) ⌝ }
+    requires { ⌜ (natAbs t ≤ farthestInstant) × (natAbs offset ≤ 10000) ⌝ }
     ensures { λ r. ⌜ r ≡ later t offset ⌝ }
 {
     t + offset * 1000000000
@@ -60,7 +61,7 @@ fn nearer_at(
     tolerance: f64,
     best: Nearest,
 ) -> Nearest
-    requires { ⌜ Table (now instants) (now positions) × (natAbs around ≤ 4000000000000000000) × (natAbs offset ≤ 10000) ⌝ }
+    requires { ⌜ Table (now instants) (now positions) × (natAbs around ≤ farthestInstant) × (natAbs offset ≤ 10000) ⌝ }
     ensures { λ r. ⌜ r ≡ nearer observer (propagated tolerance (now (instants .entry)) (now (positions .entry)) (later around offset)) offset best ⌝ }
 {
     let t = moved_by_seconds(around, offset);
@@ -86,7 +87,7 @@ fn seek_nearest(
     tolerance: f64,
     start: Nearest,
 ) -> Nearest
-    requires { ⌜ Table (now instants) (now positions) × (natAbs around ≤ 4000000000000000000) × (natAbs first + step * count ≤ 10000) ⌝ }
+    requires { ⌜ Table (now instants) (now positions) × (natAbs around ≤ farthestInstant) × (natAbs first + step * count ≤ 10000) ⌝ }
     ensures { λ r. ⌜ r ≡ seekNearest tolerance (now (instants .entry)) (now (positions .entry)) observer around count 0 first step start ⌝ }
 {
     let mut best = start;
@@ -114,7 +115,7 @@ pub(crate) fn closest_at(
     around: i64,
     tolerance: f64,
 ) -> i64
-    requires { ⌜ Table (now instants) (now positions) × (natAbs around ≤ 4000000000000000000) ⌝ }
+    requires { ⌜ Table (now instants) (now positions) × (natAbs around ≤ farthestInstant) ⌝ }
     ensures { λ r. ⌜ r ≡ closestInstant tolerance (now (instants .entry)) (now (positions .entry)) observer around ⌝ }
 {
     let unranged = Nearest {

@@ -5,6 +5,7 @@ ghost use Prim.Native.Nat.{ℕ, _<_, _≤_};
 ghost use lib.IntN.{pos, natAbs};
 ghost use lib.ListN.{length, getD};
 ghost use Rattle.float.specs.Magnitude.{Within};
+ghost use Rattle.checks.specs.Limits.{mostSamples, farthestInstant};
 ghost use Rattle.samples.specs.Means.{recording};
 ghost use Rattle.samples.specs.Approach.{gapOf};
 ghost use Rattle.orbit.specs.Table.{Table};
@@ -59,7 +60,7 @@ fn try_shift(
     values: &mut [f64],
     best: LeastSoFar,
 ) -> LeastSoFar
-    requires { ⌜ Table (now instants) (now positions) × (length (now frequencies) ≡ length (now samples)) × (length (now samples) ≤ length (now values)) × ((k : ℕ) → natAbs (getD (now samples) k (pos 0)) ≤ 4000000000000000000) × Within 20000 shift × (length (now samples) ≤ 4096) ⌝ }
+    requires { ⌜ Table (now instants) (now positions) × (length (now frequencies) ≡ length (now samples)) × (length (now samples) ≤ length (now values)) × ((k : ℕ) → natAbs (getD (now samples) k (pos 0)) ≤ farthestInstant) × Within 20000 shift × (length (now samples) ≤ mostSamples) ⌝ }
     ensures { λ r. ⌜ r ≡ update best (trial (residualOf (inputsOf tolerance (now (instants .entry)) (now (positions .entry)) observer f0)) (recording (now (samples .entry)) (now (frequencies .entry))) shift) ⌝ }
 {
     let count = collect_residuals(
@@ -244,7 +245,7 @@ fn finish_fit(
 
 // The centre of the search, in seconds: measured minus predicted, in whole milliseconds over 1000.
 fn centre_between(predicted: i64, measured: i64) -> f64
-    requires { ⌜ (natAbs predicted ≤ 4100000000000000000) × (natAbs measured ≤ 4000000000000000000) ⌝ }
+    requires { ⌜ (natAbs predicted ≤ 4100000000000000000) × (natAbs measured ≤ farthestInstant) ⌝ }
     ensures { λ r. ⌜ r ≡ gapOf predicted measured ⌝ }
 {
     nearest((measured - predicted) / 1000000) / 1000.0
@@ -262,7 +263,7 @@ pub(crate) fn fit_about(
     tolerance: f64,
     values: &mut [f64],
 ) -> Fitted
-    requires { ⌜ Fitting (now instants) (now positions) (now samples) (now frequencies) (now values) × (natAbs measured ≤ 4000000000000000000) ⌝ }
+    requires { ⌜ Fitting (now instants) (now positions) (now samples) (now frequencies) (now values) × (natAbs measured ≤ farthestInstant) ⌝ }
     ensures { λ r. ⌜ fitIn r ≡ fitted (inputsOf tolerance (now (instants .entry)) (now (positions .entry)) observer f0) (recording (now (samples .entry)) (now (frequencies .entry))) measured ⌝ }
 {
     let predicted = closest_at(instants, positions, observer, measured, tolerance);

@@ -2,6 +2,7 @@
 ghost use mathlib.Core.Path.{_≡_};
 ghost use Prim.Native.Nat.{_≤_};
 ghost use lib.IntN.{natAbs};
+ghost use Rattle.checks.specs.Limits.{farthestInstant};
 ghost use Rattle.samples.specs.Means.{recording};
 ghost use Rattle.orbit.specs.Table.{Table};
 ghost use Rattle.orbit.specs.Fitting.{Sampled};
@@ -21,7 +22,7 @@ use units::Observer;
 // The measured approach of samples in nanoseconds, or else the instant of the one at index count/2.
 fn approach_or_middle(samples: &[i64], frequencies: &[f64]) -> i64
     requires { ⌜ Sampled (now samples) (now frequencies) ⌝ }
-    ensures { λ r. ⌜ (r ≡ measuredBy (now (samples .entry)) (now (frequencies .entry))) × (natAbs r ≤ 4000000000000000000) ⌝ }
+    ensures { λ r. ⌜ (r ≡ measuredBy (now (samples .entry)) (now (frequencies .entry))) × (natAbs r ≤ farthestInstant) ⌝ }
 {
     let measured = estimate_measured_pca_time(samples, frequencies);
     match measured {

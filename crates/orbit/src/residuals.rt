@@ -5,6 +5,7 @@ ghost use Prim.Native.Nat.{ℕ, _+_, _<_, _≤_};
 ghost use lib.IntN.{pos, natAbs, _-ℤ_, _*ℤ_};
 ghost use lib.ListN.{length, getD, take};
 ghost use Rattle.float.specs.Magnitude.{Within};
+ghost use Rattle.checks.specs.Limits.{farthestInstant};
 ghost use Rattle.samples.specs.Means.{recording};
 ghost use Rattle.orbit.specs.Table.{Table};
 ghost use Rattle.orbit.specs.Propagation.{propagated};
@@ -38,7 +39,7 @@ pub(crate) fn microseconds_of(shift: f64) -> i64
 
 // An instant moved earlier by whole microseconds.
 fn moved_earlier(t: i64, micros: i64) -> i64
-    requires { ⌜ (natAbs t ≤ 4000000000000000000) × (natAbs micros ≤ 20000000000) ⌝ }
+    requires { ⌜ (natAbs t ≤ farthestInstant) × (natAbs micros ≤ 20000000000) ⌝ }
     ensures { λ r. ⌜ r ≡ t -ℤ micros *ℤ pos 1000 ⌝ }
 {
     t - micros * 1000
@@ -78,7 +79,7 @@ pub(crate) fn collect_residuals(
     shift: f64,
     values: &mut [f64],
 ) -> usize
-    requires { ⌜ Table (now instants) (now positions) × (length (now frequencies) ≡ length (now samples)) × (length (now samples) ≤ length (now values)) × ((k : ℕ) → natAbs (getD (now samples) k (pos 0)) ≤ 4000000000000000000) × Within 20000 shift ⌝ }
+    requires { ⌜ Table (now instants) (now positions) × (length (now frequencies) ≡ length (now samples)) × (length (now samples) ≤ length (now values)) × ((k : ℕ) → natAbs (getD (now samples) k (pos 0)) ≤ farthestInstant) × Within 20000 shift ⌝ }
     ensures { λ r. ⌜ (r ≤ length (now (samples .entry))) × (take r (now (values .exit)) ≡ residuals (residualOf (inputsOf tolerance (now (instants .entry)) (now (positions .entry)) observer f0) shift) (recording (now (samples .entry)) (now (frequencies .entry)))) ⌝ }
 {
     let micros = microseconds_of(shift);
