@@ -27,7 +27,7 @@ pub struct Size {
 pub type Kind = fn(&mut Random, Size) -> Call;
 
 /// The kinds whose clock offset is not known beforehand.
-pub const KINDS: [Kind; 14] = [
+pub const KINDS: [Kind; 16] = [
     noisy,
     noisy_unevenly,
     in_any_order,
@@ -39,6 +39,8 @@ pub const KINDS: [Kind; 14] = [
     through_the_observer,
     rising,
     overflowing,
+    with_an_infinite_mean,
+    with_an_infinite_mean_lost,
     in_nanoseconds,
     far_from_the_table,
     any_table,
@@ -313,6 +315,30 @@ fn overflowing(random: &mut Random, size: Size) -> Call {
             *frequency = huge * scale;
         }
     }
+    call
+}
+
+/// The mean of one second is infinite, and spoils every candidate that has a position for it.
+fn with_an_infinite_mean(random: &mut Random, size: Size) -> Call {
+    let call = noisy(random, size);
+    let instant = random.pick(&call.recording.instants);
+    with_overflow_at(random, call, instant)
+}
+
+/// The same where that mean has no position at some shifts, and more than half of the others have one.
+fn with_an_infinite_mean_lost(random: &mut Random, size: Size) -> Call {
+    let call = with_lost(random, size, size.samples / 3);
+    let last = call.recording.instants.iter().max();
+    let instant = *last.expect("a recording has samples");
+    with_overflow_at(random, call, instant)
+}
+
+/// The call with three more samples at an instant, whose sum overflows.
+fn with_overflow_at(random: &mut Random, mut call: Call, instant: i64) -> Call {
+    let huge = random.pick(&[f64::MAX, f64::MIN]);
+    call.recording.instants.extend([instant; 3]);
+    call.recording.frequencies.extend([huge; 3]);
+    call.areas = call.areas.map(|length| length + 3);
     call
 }
 
