@@ -19,12 +19,13 @@ use Rattle.checks.proofs.Passed.{pass-areas}
 use Rattle.samples.specs.Means.{Sample, recording, wholeSecond, bin, seconds, meanOf, means, instants, frequencies, Alike}
 use Rattle.samples.proofs.Seconds.{Rising, rising, held, listed, seconds-are, count-means, few-means, same-means}
 use Rattle.samples.proofs.OwnSeconds.{own-seconds, means-rise}
+use Rattle.checks.specs.Limits.{nought}
 use Rattle.orbit.specs.declared.fit.Report.{Report}
 use Rattle.orbit.specs.Window.{windowSeconds, windowStart, inversionOf, modelOr}
 use Rattle.chebyshev.specs.Inverse.{Outcome as Inversion, singular, inverse}
 use Rattle.orbit.specs.Propagation.{Motion, evaluated, propagated}
 use Rattle.orbit.specs.Closest.{largest}
-use Rattle.orbit.specs.Fit.{Inputs, moved, residualIn, residualOf, keep, residuals, meanOver, deviation, Trial, trial, usable, plusZero, five, fifteen, tenth, twentieth, thousandth, hundredThousandth, around, coarse, fine, micro, shifts, report, centreOf, fitted}
+use Rattle.orbit.specs.Fit.{Inputs, moved, residualIn, residualOf, keep, residuals, meanOver, deviation, Trial, trial, usable, five, fifteen, tenth, twentieth, thousandth, hundredThousandth, around, coarse, fine, micro, shifts, report, centreOf, fitted}
 use Rattle.orbit.specs.Pass.{measuredOf, passOutcome, passRefusal, passReport, passInstants, passFrequencies}
 use Rattle.orbit.proofs.FirstLeast.{at-least-the-winner's, place, and-both, le-not-lt, NoCoarse, refused-exactly, Chosen, exactly-one}
 use Rattle.orbit.proofs.Stages.{Stage, around-stage, fine-stage, micro-stage, coarse-length, Listing, coarse-alone, listing, listing-length}
@@ -98,7 +99,7 @@ pub record Usable (i : Inputs) (S : List Sample) : Type 0 where
 -- micro about the first least so far; each stage by its number of steps, start and increment
 pub record ShiftsAre (i : Inputs) (S : List Sample) : Type 0 where
   pub about : (centre : Float) → Stage 301 (sub binary64 centre fifteen) tenth (around centre)
-  pub coarse-are : coarse (centreFor i S) ≡ around (centreFor i S) ++ cond (lt five (magnitudeOf (centreFor i S))) (around plusZero) []
+  pub coarse-are : coarse (centreFor i S) ≡ around (centreFor i S) ++ cond (lt five (magnitudeOf (centreFor i S))) (around nought) []
   pub coarse-many : length (coarse (centreFor i S)) ≡ cond (lt five (magnitudeOf (centreFor i S))) 602 301
   pub fine-are : (best : Float) → Stage 101 (sub binary64 best twentieth) thousandth (fine best)
   pub micro-are : (best : Float) → Stage 201 (sub binary64 best thousandth) hundredThousandth (micro best)
@@ -146,7 +147,7 @@ unfolding residuals howMany
 left-many i x [] = refl
 left-many i x (m ∷ ms) = go (propagated (i .tolerance) (i .instants) (i .positions) (moved (m .instant) x)) (left-many i x ms)
   where
-    go : (o : Outcome Motion) → length (residuals (residualOf i x) ms) ≡ howMany (propagates i x) ms → length (keep (residualIn (i .observer) (i .centre) (m .frequency) o) (residuals (residualOf i x) ms)) ≡ cond (positioned o) (suc (howMany (propagates i x) ms)) (howMany (propagates i x) ms)
+    go : (o : Outcome Motion) → length (residuals (residualOf i x) ms) ≡ howMany (propagates i x) ms → length (keep (residualIn (i .observer) (i .f0) (m .frequency) o) (residuals (residualOf i x) ms)) ≡ cond (positioned o) (suc (howMany (propagates i x) ms)) (howMany (propagates i x) ms)
     go (refused n) e = e
     go (answered w) e = ap suc e
 
@@ -279,7 +280,7 @@ module _ (i : Inputs) (ts : List ℤ) (fs : List Float) (a : List ℤ) (b : List
       let M = means (recording ts fs) in
       let few = few-means (recording ts fs) in
       let all = few-recorded ts fs in
-      let held = pass-areas (i .instants) (i .positions) ts fs (i .observer .x .0) (i .observer .y .0) (i .observer .z .0) (i .centre) a b p in
+      let held = pass-areas (i .instants) (i .positions) ts fs (i .observer .x .0) (i .observer .y .0) (i .observer .z .0) (i .f0) a b p in
       record {
         outcome-is = ap (λ (k : ℕ). unlessRefused k (passOutcome i (recording ts fs))) p;
         fits = (omega (arith, held .0), omega (arith, held .1));

@@ -11,11 +11,12 @@ use lib.Ieee.{Float, binary64, sub, lt}
 use Rattle.float.specs.Magnitude.{Within, magnitudeOf}
 use Rattle.float.proofs.Bounds.{sub-within}
 use Rattle.checks.specs.Outcome.{Outcome, refused, answered}
+use Rattle.checks.specs.Limits.{nought}
 use Rattle.orbit.specs.declared.fit.LeastSoFar.{LeastSoFar}
 use Rattle.orbit.specs.declared.fit.Report.{Report}
 use Rattle.orbit.specs.Closest.{largest}
 use Rattle.orbit.specs.Fitting.{Fitting}
-use Rattle.orbit.specs.Fit.{Trial, Best, noneYet, found, search, firstLeast, plusZero, five, fifteen, tenth, twentieth, thousandth, hundredThousandth, shiftAt, shiftsFrom, around, coarse, fine, micro, further, report, reportOf, fitBy}
+use Rattle.orbit.specs.Fit.{Trial, Best, noneYet, found, search, firstLeast, five, fifteen, tenth, twentieth, thousandth, hundredThousandth, shiftAt, shiftsFrom, around, coarse, fine, micro, further, report, reportOf, fitBy}
 use Rattle.orbit.specs.State.{stateOf, state, update, updates, stageFrom, reported, finished}
 use Rattle.orbit.proofs.Shifts.{weaken, stage-within}
 use Rattle.orbit.proofs.Updates.{state-search, updates-append, map-append, Below, below-search, updates-within}
@@ -80,16 +81,16 @@ module _ (try : Float → Trial) where
   pub coarse-one : (centre : Float) (s : LeastSoFar) → lt five (magnitudeOf centre) ≡ false → updates s (map try (shiftsFrom 301 0 (sub binary64 centre fifteen) tenth)) ≡ updates s (map try (coarse centre))
   unfolding coarse around updates
   coarse-one centre s h =
-      sym (ap (λ (v : Bool). updates s (map try (around centre ++ cond v (around plusZero) []))) h
+      sym (ap (λ (v : Bool). updates s (map try (around centre ++ cond v (around nought) []))) h
       ∙ ap (updates s) (map-append try (around centre) [])
       ∙ updates-append s (map try (around centre)) [])
 
-  pub coarse-two : (centre : Float) (s : LeastSoFar) → lt five (magnitudeOf centre) ≡ true → updates (updates s (map try (shiftsFrom 301 0 (sub binary64 centre fifteen) tenth))) (map try (shiftsFrom 301 0 (sub binary64 plusZero fifteen) tenth)) ≡ updates s (map try (coarse centre))
+  pub coarse-two : (centre : Float) (s : LeastSoFar) → lt five (magnitudeOf centre) ≡ true → updates (updates s (map try (shiftsFrom 301 0 (sub binary64 centre fifteen) tenth))) (map try (shiftsFrom 301 0 (sub binary64 nought fifteen) tenth)) ≡ updates s (map try (coarse centre))
   unfolding coarse around
   coarse-two centre s h =
-      sym (ap (λ (v : Bool). updates s (map try (around centre ++ cond v (around plusZero) []))) h
-      ∙ ap (updates s) (map-append try (around centre) (around plusZero))
-      ∙ updates-append s (map try (around centre)) (map try (around plusZero)))
+      sym (ap (λ (v : Bool). updates s (map try (around centre ++ cond v (around nought) []))) h
+      ∙ ap (updates s) (map-append try (around centre) (around nought))
+      ∙ updates-append s (map try (around centre)) (map try (around nought)))
 
   -- ---- every start is small
 
@@ -107,4 +108,4 @@ module _ (try : Float → Trial) where
         go : (v : Bool) → lt five (magnitudeOf centre) ≡ v → Within 10400 (updates (state noneYet) (map try (coarse centre)) .shift)
         go false e = subst (λ (s : LeastSoFar). Within 10400 (s .shift)) (coarse-one centre (state noneYet) e) first
         go true e = subst (λ (s : LeastSoFar). Within 10400 (s .shift)) (coarse-two centre (state noneYet) e)
-            (stage-kept 15 10400 301 (updates (state noneYet) (map try (shiftsFrom 301 0 (sub binary64 centre fifteen) tenth))) (sub binary64 plusZero fifteen) tenth (omega arith) (omega arith) (omega arith) first (sub-within 0 15 plusZero fifteen (omega arith) (omega arith) (omega arith)) (omega arith))
+            (stage-kept 15 10400 301 (updates (state noneYet) (map try (shiftsFrom 301 0 (sub binary64 centre fifteen) tenth))) (sub binary64 nought fifteen) tenth (omega arith) (omega arith) (omega arith) first (sub-within 0 15 nought fifteen (omega arith) (omega arith) (omega arith)) (omega arith))

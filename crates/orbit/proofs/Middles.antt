@@ -10,11 +10,12 @@ use lib.Seq.{take-append-seam}
 use lib.Ieee.{Float, lt}
 use Rattle.checks.specs.Outcome.{Outcome, refused, answered, written}
 use Rattle.samples.specs.Means.{Sample, recording, means, instants, frequencies}
-use Rattle.samples.specs.Approach.{nought, noFloor, leastSlope, approachOf}
+use Rattle.samples.specs.Approach.{noFloor, leastSlope, approachOf}
 use Rattle.samples.proofs.Seconds.{some-means, few-means}
 use Rattle.samples.proofs.OwnSeconds.{Limited, limited-means}
 use Rattle.samples.proofs.Recordings.{record-length, record-instants}
 use Rattle.checks.proofs.Passed.{Samples}
+use Rattle.checks.specs.Limits.{nought}
 use Rattle.orbit.specs.Fitting.{Sampled}
 use Rattle.orbit.specs.Pass.{approachOr, middleOf, measuredBy}
 

@@ -12,8 +12,9 @@ use Rattle.float.specs.Magnitude.{magnitudeOf}
 use Rattle.checks.specs.Checks.{any, unrising, anyMisplaced, infinite}
 use Rattle.checks.specs.Entries.{firstFailing}
 use Rattle.samples.specs.Means.{Sample, recording, bin, means, instants, Alike}
+use Rattle.checks.specs.Limits.{nought}
 use Rattle.orbit.specs.Window.{evenTolerance}
-use Rattle.orbit.specs.Fit.{Inputs, plusZero}
+use Rattle.orbit.specs.Fit.{Inputs}
 use Rattle.orbit.specs.Pass.{passRefusal, passInstants}
 use Rattle.orbit.proofs.Demand3.{TwoCalls, two-calls}
 
@@ -66,12 +67,12 @@ others = record {
   tolerance = evenTolerance;
   instants = minutes;
   positions = replicate 30 (fin false 109375 (pos 6));
-  observer = record { x = record { 0 = fin false 3125 (pos 11) }; y = record { 0 = plusZero }; z = record { 0 = plusZero } };
-  centre = fin false 1953125 (pos 9);
+  observer = record { x = record { 0 = fin false 3125 (pos 11) }; y = record { 0 = nought }; z = record { 0 = nought } };
+  f0 = fin false 1953125 (pos 9);
 }
 
 -- the first call's areas have room for the five samples and hold zeros; the second's are longer and hold other things
-pub mixed-passes : passRefusal others mixedInstants mixedFrequencies (replicate 5 (pos 0)) (replicate 5 plusZero) ≡ 0
+pub mixed-passes : passRefusal others mixedInstants mixedFrequencies (replicate 5 (pos 0)) (replicate 5 nought) ≡ 0
 unfolding firstFailing any unrising anyMisplaced infinite magnitudeOf lt le
 mixed-passes = refl
 
@@ -80,11 +81,11 @@ unfolding firstFailing any unrising anyMisplaced infinite magnitudeOf lt le
 sorted-passes = refl
 
 -- so the two calls give the same
-pub mixed-calls : TwoCalls others mixedInstants mixedFrequencies (replicate 5 (pos 0)) (replicate 5 plusZero) sortedInstants sortedFrequencies (replicate 8 (negsuc 6)) (replicate 6 nan)
-mixed-calls = two-calls others mixedInstants mixedFrequencies (replicate 5 (pos 0)) (replicate 5 plusZero) sortedInstants sortedFrequencies (replicate 8 (negsuc 6)) (replicate 6 nan) mixed-passes sorted-passes alike
+pub mixed-calls : TwoCalls others mixedInstants mixedFrequencies (replicate 5 (pos 0)) (replicate 5 nought) sortedInstants sortedFrequencies (replicate 8 (negsuc 6)) (replicate 6 nan)
+mixed-calls = two-calls others mixedInstants mixedFrequencies (replicate 5 (pos 0)) (replicate 5 nought) sortedInstants sortedFrequencies (replicate 8 (negsuc 6)) (replicate 6 nan) mixed-passes sorted-passes alike
 
 -- and the means stand at the front of each call's areas, the rest untouched
-pub mixed-area : passInstants others mixedInstants mixedFrequencies (replicate 5 (pos 0)) (replicate 5 plusZero) ≡ negsuc 249999000 ∷ pos 300000000 ∷ replicate 3 (pos 0)
+pub mixed-area : passInstants others mixedInstants mixedFrequencies (replicate 5 (pos 0)) (replicate 5 nought) ≡ negsuc 249999000 ∷ pos 300000000 ∷ replicate 3 (pos 0)
 mixed-area = mixed-calls .one .instants-are ∙ ap (λ (M : List Sample). instants M ++ drop (length M) (replicate 5 (pos 0))) mixed-means
 
 pub sorted-area : passInstants others sortedInstants sortedFrequencies (replicate 8 (negsuc 6)) (replicate 6 nan) ≡ negsuc 249999000 ∷ pos 300000000 ∷ replicate 6 (negsuc 6)

@@ -12,8 +12,9 @@ use lib.ListN.{length, getD, length-append}
 use lib.Ieee.{Float, nan, fin, binary64, sub, lt}
 use lib.Ieee.Fits.{and-r}
 use Rattle.float.specs.Magnitude.{magnitudeOf}
+use Rattle.checks.specs.Limits.{nought}
 use Rattle.orbit.specs.Closest.{largest}
-use Rattle.orbit.specs.Fit.{Trial, Best, noneYet, found, later, search, firstLeast, plusZero, five, fifteen, tenth, twentieth, thousandth, hundredThousandth, shiftAt, shiftsFrom, around, coarse, fine, micro, further, coarseFine, shifts, reportOf, fitBy}
+use Rattle.orbit.specs.Fit.{Trial, Best, noneYet, found, later, search, firstLeast, five, fifteen, tenth, twentieth, thousandth, hundredThousandth, shiftAt, shiftsFrom, around, coarse, fine, micro, further, coarseFine, shifts, reportOf, fitBy}
 use Rattle.orbit.proofs.FirstLeast.{Wins, After, place, first-least, none-found, next-stage, still-found, NoCoarse}
 
 -- ---- a stage
@@ -60,8 +61,8 @@ pub coarse-length : (centre : Float) → length (coarse centre) ≡ cond (lt fiv
 unfolding coarse
 coarse-length centre = go (lt five (magnitudeOf centre))
   where
-    go : (v : Bool) → length (around centre ++ cond v (around plusZero) []) ≡ cond v 602 301
-    go true = length-append (around centre) (around plusZero) ∙ omega (arith, around-stage centre .many, around-stage plusZero .many)
+    go : (v : Bool) → length (around centre ++ cond v (around nought) []) ≡ cond v 602 301
+    go true = length-append (around centre) (around nought) ∙ omega (arith, around-stage centre .many, around-stage nought .many)
     go false = length-append (around centre) [] ∙ omega (arith, around-stage centre .many)
 
 -- there is always a coarse shift

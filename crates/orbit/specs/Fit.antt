@@ -17,6 +17,7 @@ use Rattle.checks.specs.Entries.{firstFailing, fitChecks}
 use Rattle.samples.specs.Means.{Sample, recording}
 use Rattle.samples.specs.Approach.{gapOf}
 use Rattle.samples.specs.Slant.{lightSpeed}
+use Rattle.checks.specs.Limits.{nought}
 use Rattle.orbit.specs.declared.fit.Report.{Report}
 use Rattle.orbit.specs.declared.fit.Fitted.{Fitted}
 use Rattle.orbit.specs.declared.fit.Fitted.the-variants.{Fit, Refused}
@@ -30,10 +31,10 @@ pub record Inputs : Type 0 where
   pub instants : List ℤ
   pub positions : List Float
   pub observer : Observer
-  pub centre : Float
+  pub f0 : Float
 
 abbrev pub inputsOf : Float → List ℤ → List Float → Observer → Float → Inputs
-inputsOf tolerance instants positions observer centre = record { tolerance = tolerance; instants = instants; positions = positions; observer = observer; centre = centre }
+inputsOf tolerance instants positions observer f0 = record { tolerance = tolerance; instants = instants; positions = positions; observer = observer; f0 = f0 }
 
 -- ---- a sample under a shift
 
@@ -72,7 +73,7 @@ residualIn o f0 frequency (refused n) = nothing
 residualIn o f0 frequency (answered m) = left (residualAt o f0 frequency m)
 
 abbrev pub residualOf : Inputs → Float → Sample → Residual
-residualOf i shift x = residualIn (i .observer) (i .centre) (x .frequency) (propagated (i .tolerance) (i .instants) (i .positions) (moved (x .instant) shift))
+residualOf i shift x = residualIn (i .observer) (i .f0) (x .frequency) (propagated (i .tolerance) (i .instants) (i .positions) (moved (x .instant) shift))
 
 -- ---- the trial of a shift
 
@@ -166,9 +167,6 @@ thousandth = fin false 1152921504606847 (negsuc 59)
 abbrev pub hundredThousandth : Float
 hundredThousandth = fin false 5902958103587057 (negsuc 68)
 
-abbrev pub plusZero : Float
-plusZero = fin false 0 (pos 0)
-
 -- step n of a stage: start + step × increment
 abbrev pub shiftAt : Float → Float → ℕ → Float
 shiftAt start increment step = add binary64 start (mul binary64 (nearestOf (pos step)) increment)
@@ -187,7 +185,7 @@ around centre = shiftsFrom 301 0 (sub binary64 centre fifteen) tenth
 -- "a second centre 0.0 if its magnitude is over 5.0"
 unfoldable pub coarse : Float → List Float
 unfolding around
-coarse centre = around centre ++ cond (lt five (magnitudeOf centre)) (around plusZero) []
+coarse centre = around centre ++ cond (lt five (magnitudeOf centre)) (around nought) []
 
 -- "Fine: from the first least so far − 0.05, step·0.001, 0 to 100"
 unfoldable pub fine : Float → List Float
@@ -241,7 +239,7 @@ fitted i S measured = fitBy (trial (residualOf i) S) (length S) (centreOf i meas
 
 abbrev pub satelliteFit : Inputs → List ℤ → List Float → ℤ → Outcome Report
 satelliteFit i ts fs measured =
-    unlessRefused (firstFailing (fitChecks (i .instants) (i .positions) ts fs (i .observer .x .0) (i .observer .y .0) (i .observer .z .0) (i .centre) measured))
+    unlessRefused (firstFailing (fitChecks (i .instants) (i .positions) ts fs (i .observer .x .0) (i .observer .y .0) (i .observer .z .0) (i .f0) measured))
     (fitted i (recording ts fs) measured)
 
 -- the paper's number and values of each case of the answer

@@ -33,7 +33,7 @@ passOutcome i S = let M = means S in fitted i M (measuredOf M)
 
 abbrev pub passRefusal : Inputs → List ℤ → List Float → List ℤ → List Float → ℕ
 passRefusal i ts fs instantArea frequencyArea =
-    firstFailing (passChecks (i .instants) (i .positions) ts fs (i .observer .x .0) (i .observer .y .0) (i .observer .z .0) (i .centre) instantArea frequencyArea)
+    firstFailing (passChecks (i .instants) (i .positions) ts fs (i .observer .x .0) (i .observer .y .0) (i .observer .z .0) (i .f0) instantArea frequencyArea)
 
 abbrev pub passReport : Inputs → List ℤ → List Float → List ℤ → List Float → Outcome Report
 passReport i ts fs instantArea frequencyArea = unlessRefused (passRefusal i ts fs instantArea frequencyArea) (passOutcome i (recording ts fs))

@@ -3,18 +3,19 @@ use mathlib.Core.Bool.{cond, _&&_}
 use mathlib.Core.List.{List, [], _∷_, map}
 use Prim.Native.Nat.{ℕ}
 use lib.Ieee.{Float, lt}
+use Rattle.checks.specs.Limits.{nought}
 use Rattle.orbit.specs.declared.fit.LeastSoFar.{LeastSoFar}
 use Rattle.checks.specs.Outcome.{Outcome, refused, answered}
 use Rattle.orbit.specs.declared.fit.Report.{Report}
 use Rattle.orbit.specs.Closest.{largest}
-use Rattle.orbit.specs.Fit.{Trial, plusZero, Best, noneYet, found, fine, micro}
+use Rattle.orbit.specs.Fit.{Trial, Best, noneYet, found, fine, micro}
 
 abbrev pub stateOf : Trial → LeastSoFar
 stateOf t = record { rmse = t .rmse; shift = t .shift; offset = t .offset }
 
 -- the largest finite double, 0 and 0 at first
 abbrev pub state : Best → LeastSoFar
-state noneYet = record { rmse = largest; shift = plusZero; offset = plusZero }
+state noneYet = record { rmse = largest; shift = nought; offset = nought }
 state (found t) = stateOf t
 
 -- a later trial wins only by a smaller RMSE

@@ -7,8 +7,9 @@ use lib.IntN.{ℤ}
 use lib.ListN.{length}
 use lib.Ieee.{Float}
 use Rattle.checks.specs.Checks.{unrising}
+use Rattle.checks.specs.Limits.{leastCoordinates, axes}
 
 pub record Table (instants : List ℤ) (positions : List Float) : Type 0 where
-  pub enough : 10 ≤ length instants
-  pub three : length positions ≡ 3 * length instants
+  pub enough : leastCoordinates ≤ length instants
+  pub three : length positions ≡ axes * length instants
   pub rising : unrising instants ≡ false

@@ -19,6 +19,7 @@ use Rattle.chebyshev.specs.Coefficients.{coefficientsBy}
 use Rattle.units.specs.declared.Seconds.{Seconds}
 use Rattle.checks.specs.Outcome.{Outcome, refused, answered, unlessRefused}
 use Rattle.checks.specs.Entries.{firstFailing, propagationChecks}
+use Rattle.checks.specs.Limits.{axes, nought}
 use Rattle.orbit.specs.declared.window.ChebyshevOrbit.{ChebyshevOrbit}
 use Rattle.orbit.specs.declared.window.Model.{Model}
 
@@ -89,10 +90,7 @@ tauOf t0 t9 t = sub binary64 (div binary64 (mul binary64 two (sub binary64 t t0)
 abbrev pub nodeMatrix : List Float → Matrix
 nodeMatrix t = listOf (λ k. polynomials rounded (tauOf (firstTime t) (lastTime t) (getD t k nan))) terms 0
 
--- doubles in a position, and one axis of the window's ten positions
-abbrev pub axes : ℕ
-axes = 3
-
+-- one axis of the window's ten positions
 abbrev pub axisOf : List Float → ℕ → ℕ → Row
 axisOf positions start axis = listOf (λ k. getD positions (axes * (start + k) + axis) nan) terms 0
 
@@ -133,9 +131,6 @@ abbrev pub chebyshevModel : List ℤ → List Float → ℤ → Outcome Chebyshe
 chebyshevModel instants positions t = unlessRefused (firstFailing (propagationChecks instants positions t)) (modelAbout evenTolerance instants positions t)
 
 -- the paper's number and values of the answer: zeros stand beside a refusal
-abbrev pub nought : Float
-nought = fin false 0 (pos 0)
-
 abbrev pub blankModel : ChebyshevOrbit
 blankModel = record {
   t0 = record { 0 = nought };

@@ -7,7 +7,8 @@ use lib.IntN.{ℤ, pos}
 use lib.ListN.{getD}
 use lib.Ieee.{Float, lt}
 use Rattle.checks.specs.Outcome.{Outcome, refused, answered}
-use Rattle.samples.specs.Approach.{nought, noFloor, leastSlope, approachOf}
+use Rattle.checks.specs.Limits.{nought}
+use Rattle.samples.specs.Approach.{noFloor, leastSlope, approachOf}
 
 -- ---- the instant of the best's middle, where its slope is below zero
 

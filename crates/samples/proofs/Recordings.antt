@@ -6,7 +6,8 @@ use native.Mathlib.Omega.{arith}
 use lib.IntN.{ℤ, pos}
 use lib.ListN.{length, getD, take, drop}
 use lib.Ieee.{Float, nan}
-use Rattle.samples.specs.Means.{Sample, recording, nought, instants}
+use Rattle.checks.specs.Limits.{nought}
+use Rattle.samples.specs.Means.{Sample, recording, instants}
 
 -- what `getD` gives past the end
 abbrev pub noSample : Sample

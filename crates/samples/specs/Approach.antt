@@ -10,6 +10,7 @@ use Rattle.float.specs.Conversions.{nearestOf}
 use Rattle.checks.specs.Outcome.{Outcome, refused, answered, outcome, unlessRefused}
 use Rattle.checks.specs.Entries.{firstFailing, samplesChecks}
 use Rattle.units.specs.declared.Nanoseconds.{Nanoseconds}
+use Rattle.checks.specs.Limits.{nought}
 use Rattle.samples.specs.declared.approach.Approach.{Approach}
 use Rattle.samples.specs.declared.approach.Approach.the-variants.{At}
 use Rattle.samples.specs.declared.approach.Approach.the-variants.{Refused as NoApproach}
@@ -17,10 +18,7 @@ use Rattle.samples.specs.declared.approach.Slope.{Slope}
 use Rattle.samples.specs.declared.approach.Slope.the-variants.{Steepest}
 use Rattle.samples.specs.declared.approach.Slope.the-variants.{Refused as NoSlope}
 
--- +0.0, 1000.0 and −120.0
-abbrev pub nought : Float
-nought = fin false 0 (pos 0)
-
+-- 1000.0 and −120.0
 abbrev pub thousand : Float
 thousand = fin false 125 (pos 3)
 

@@ -11,6 +11,7 @@ use lib.Ieee.{Float, fin, binary64, add, div}
 use Rattle.float.specs.Conversions.{nearestOf}
 use Rattle.checks.specs.Outcome.{Outcome, refused, answered, outcome, area}
 use Rattle.checks.specs.Entries.{firstFailing, meansChecks}
+use Rattle.checks.specs.Limits.{nought}
 use Rattle.samples.specs.declared.means.Downsampled.{Downsampled}
 use Rattle.samples.specs.declared.means.Downsampled.the-variants.{Count, Refused}
 
@@ -68,10 +69,6 @@ unfoldable pub frequencySum : Float → List Sample → Float
 unfolding add
 frequencySum a [] = a
 frequencySum a (x ∷ xs) = frequencySum (add binary64 a (x .frequency)) xs
-
--- "from 0.0"
-abbrev pub nought : Float
-nought = fin false 0 (pos 0)
 
 -- "the bin's first plus (sum of offsets in whole microseconds, each toward zero) divided by the count, toward zero"
 unfoldable pub meanInstant : ℤ → List Sample → ℤ

@@ -9,10 +9,10 @@ use lib.Signed.{quotZ}
 use lib.ListN.{length, getD}
 use lib.Ieee.{Float, binary64, add, div}
 use Rattle.float.specs.Conversions.{nearestOf}
-use Rattle.checks.specs.Limits.{mostSamples, farthestInstant}
+use Rattle.checks.specs.Limits.{mostSamples, farthestInstant, nought}
 use Rattle.samples.specs.declared.means.Bin.{Bin}
 use Rattle.samples.specs.declared.means.Mean.{Mean}
-use Rattle.samples.specs.Means.{Sample, second, microsecond, wholeSecond, eqZ, offsets, frequencySum, nought, recording, means, instants, frequencies}
+use Rattle.samples.specs.Means.{Sample, second, microsecond, wholeSecond, eqZ, offsets, frequencySum, recording, means, instants, frequencies}
 
 -- the first nanosecond of an instant's second
 abbrev pub startOf : ℤ → ℤ

@@ -8,8 +8,9 @@ use lib.Ieee.{Float, binary64, sub, lt, ofBits}
 use Rattle.float.specs.Magnitude.{Within}
 use Rattle.float.proofs.Bounds.{sub-within}
 use Rattle.samples.specs.Means.{recording}
+use Rattle.checks.specs.Limits.{nought}
 use Rattle.orbit.specs.declared.fit.LeastSoFar.{LeastSoFar}
-use Rattle.orbit.specs.Fit.{Trial, inputsOf, residualOf, trial, plusZero, fifteen, tenth, five, noneYet, shiftsFrom}
+use Rattle.orbit.specs.Fit.{Trial, inputsOf, residualOf, trial, fifteen, tenth, five, noneYet, shiftsFrom}
 use Rattle.orbit.specs.State.{updates, state}
 use Rattle.orbit.proofs.Shifts.{weaken}
 use Rattle.orbit.proofs.Finish.{start-within, still-fitting, coarse-one, coarse-two}
@@ -45,7 +46,7 @@ run-stage-requires-2 c κs =
     let at = c .before .before .before .before .before in
     let s = at .before .before .before .before .before in
     let call = at .run-stage in
-    (still-fitting (call .last .1 .1 .1 .1 .1 .1 .1 .1 .1 .1 .0) (call .kept .1 .1 .1 .1 .1 .1 .1 .1 .1 .1 .0) (s .pre .0), start-within 0 15 plusZero fifteen (omega arith) (omega arith) (omega arith), omega arith, omega arith)
+    (still-fitting (call .last .1 .1 .1 .1 .1 .1 .1 .1 .1 .1 .0) (call .kept .1 .1 .1 .1 .1 .1 .1 .1 .1 .1 .0) (s .pre .0), start-within 0 15 nought fifteen (omega arith) (omega arith) (omega arith), omega arith, omega arith)
 
 same-length-2 : tie.Need-same-length-2
 same-length-2 c = search needs
@@ -58,7 +59,7 @@ returns-2 c =
     let at = far .before .before .before .before in
     let s = at .before .before .before .before .before in
     second .run-stage2 .ensures
-    ∙ ap (λ (x : LeastSoFar). updates x (map (try-of s) (shiftsFrom 301 0 (sub binary64 plusZero fifteen) tenth))) (at .run-stage .ensures)
+    ∙ ap (λ (x : LeastSoFar). updates x (map (try-of s) (shiftsFrom 301 0 (sub binary64 nought fifteen) tenth))) (at .run-stage .ensures)
     ∙ coarse-two (try-of s) (s .args .centre) (state noneYet) (ap (lt five) (sym (far .before .magnitude .ensures)) ∙ not-false _ (far .if1 .left))
 
 pub coarse-stage-spec : {M : Type 1} → statement M
