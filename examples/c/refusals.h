@@ -1,0 +1,13 @@
+/* What the ten refusals of the library mean, in the words of include/orbit.h. */
+#ifndef REFUSALS_H
+#define REFUSALS_H
+
+#include <stdint.h>
+
+/* What is wrong, for a refusal from 1 to 10. */
+const char *what_is_wrong(uint8_t refusal);
+
+/* What to do about it. */
+const char *what_to_do(uint8_t refusal);
+
+#endif

@@ -1,0 +1,188 @@
+//! Runs one pass of a satellite from the sample data of examples/data and prints what the library answers; then shows a refusal.
+//! Prints the same lines as examples/c/clock.c. Exit status 0: all was as expected.
+
+mod data;
+
+use data::{Known, Sample};
+use orbit::{Hertz, MeansArea, Metres, Nanoseconds, Recording, Refusal, Report, Seconds};
+use std::process::ExitCode;
+
+/// How many means are printed, beside the last.
+const MEANS_SHOWN: usize = 3;
+
+/// A mark for the lent areas: no pass of the sample data writes these.
+const MARK: (Nanoseconds, Hertz) = (Nanoseconds(-1), Hertz(-1.0));
+
+/// What is lent for the means of the pass.
+struct Areas {
+    instants: Vec<Nanoseconds>,
+    frequencies: Vec<Hertz>,
+}
+
+impl Areas {
+    /// As long as the recording, since there may be as many means; all marked.
+    fn new(samples: usize) -> Self {
+        Areas {
+            instants: vec![MARK.0; samples],
+            frequencies: vec![MARK.1; samples],
+        }
+    }
+
+    fn lent(&mut self) -> MeansArea<'_> {
+        MeansArea {
+            instants: &mut self.instants,
+            frequencies: &mut self.frequencies,
+        }
+    }
+
+    /// The means, as a recording of their own.
+    fn means(&self, report: &Report) -> Recording<'_> {
+        let count = report.count as usize;
+        Recording {
+            instants: &self.instants[..count],
+            frequencies: &self.frequencies[..count],
+        }
+    }
+
+    fn untouched(&self) -> bool {
+        let marked = self.instants.iter().all(|&instant| instant == MARK.0);
+        marked
+            && self
+                .frequencies
+                .iter()
+                .all(|&frequency| frequency == MARK.1)
+    }
+}
+
+fn main() -> ExitCode {
+    let sample = Sample::load();
+    let answered = show_pass(&sample).unwrap_or_else(|refusal| {
+        print_refusal(refusal);
+        false
+    });
+    let refused = show_refusal(sample);
+    if answered && refused {
+        ExitCode::SUCCESS
+    } else {
+        ExitCode::FAILURE
+    }
+}
+
+/// The pass of the sample data; whether it found the offsets that went into them.
+fn show_pass(sample: &Sample) -> Result<bool, Refusal> {
+    let (coordinates, samples) = (sample.instants.len(), sample.samples.len());
+    println!(
+        "A pass: {coordinates} coordinates, {samples} samples, centre frequency {:.0} Hz",
+        sample.centre_frequency.0
+    );
+    let mut areas = Areas::new(samples);
+    let report = run_pass(sample, &mut areas)?;
+    let means = areas.means(&report);
+    print_report(&report);
+    print_means(means);
+    print_slope_and_range(sample.centre_frequency, means)?;
+    Ok(print_known(&sample.known, &report))
+}
+
+/// The whole pass; the means at the front of the areas.
+fn run_pass(sample: &Sample, areas: &mut Areas) -> Result<Report, Refusal> {
+    orbit::pass(
+        sample.table(),
+        sample.recording(),
+        sample.observer,
+        sample.centre_frequency,
+        areas.lent(),
+    )
+}
+
+fn print_report(report: &Report) {
+    let Seconds(clock_offset) = report.clock_offset;
+    println!("clock offset      {clock_offset:.5} s (above zero: the recorder's clock is ahead)");
+    println!("frequency offset  {:.3} Hz", report.frequency_offset.0);
+    println!("RMSE              {:.3} Hz", report.rmse.0);
+    println!("count of means    {}", report.count);
+}
+
+/// The first means and the last.
+fn print_means(means: Recording) {
+    let count = means.instants.len();
+    let first = count.min(MEANS_SHOWN);
+    println!(
+        "means             the first {first} of {count} and the last, by the recorder's clock:"
+    );
+    (0..first).for_each(|i| print_mean(means, i));
+    if count > first {
+        print_mean(means, count - 1);
+    }
+}
+
+fn print_mean(means: Recording, i: usize) {
+    let time = time_of_day(means.instants[i]);
+    println!(
+        "    mean {:3}      {time} UTC  {:.3} Hz",
+        i + 1,
+        means.frequencies[i].0
+    );
+}
+
+/// An instant as the time of day, to the microsecond.
+fn time_of_day(Nanoseconds(nanoseconds): Nanoseconds) -> String {
+    let microseconds = nanoseconds / 1000 % (86_400 * 1_000_000);
+    let (seconds, fraction) = (microseconds / 1_000_000, microseconds % 1_000_000);
+    let (hour, minute, second) = (seconds / 3600, seconds / 60 % 60, seconds % 60);
+    format!("{hour:02}:{minute:02}:{second:02}.{fraction:06}")
+}
+
+/// The steepest slope of the means, and the slant range by it.
+fn print_slope_and_range(centre_frequency: Hertz, means: Recording) -> Result<(), Refusal> {
+    let slope = orbit::steepest_slope(means)?;
+    let Metres(range) = orbit::estimate_slant_range(centre_frequency, slope);
+    println!("steepest slope    {:.3} Hz/s", slope.0);
+    println!("slant range       {range:.0} m, estimated from that slope");
+    Ok(())
+}
+
+/// Whether the fit found the offsets that went into the sample data.
+fn print_known(known: &Known, report: &Report) -> bool {
+    let found = (report.clock_offset.0 - known.clock_offset.0).abs() <= 0.005
+        && (report.frequency_offset.0 - known.frequency_offset.0).abs() <= 0.5;
+    let verdict = if found {
+        "found, to within 0.005 s and 0.5 Hz"
+    } else {
+        "NOT found"
+    };
+    println!(
+        "went into it      {:.5} s and {:.3} Hz: {verdict}",
+        known.clock_offset.0, known.frequency_offset.0
+    );
+    found
+}
+
+/// The same pass with the table in kilometres is refused, and nothing is written.
+fn show_refusal(mut sample: Sample) -> bool {
+    for Metres(component) in sample.positions.as_flattened_mut() {
+        *component /= 1000.0;
+    }
+    println!("\nThe same pass, the table in kilometres");
+    let mut areas = Areas::new(sample.samples.len());
+    let answer = run_pass(&sample, &mut areas);
+    match answer {
+        Ok(_) => println!("NOT refused"),
+        Err(refusal) => print_refusal(refusal),
+    }
+    println!(
+        "lent areas        {}",
+        if areas.untouched() {
+            "untouched"
+        } else {
+            "WRITTEN"
+        }
+    );
+    answer == Err(Refusal::PositionBeyondLimits) && areas.untouched()
+}
+
+fn print_refusal(refusal: Refusal) {
+    println!("refused by        {}", refusal.number());
+    println!("what is wrong     {}", refusal.what_is_wrong());
+    println!("what to do        {}", refusal.what_to_do());
+}

@@ -1,0 +1,442 @@
+//! The ship clock's library for Rust: every entry of `include/orbit.h`, with the unit types and without `unsafe` for the caller.
+//!
+//! Each unit is a type, also inside slices: kilometres, hertz or a bare number do not compile where metres are meant.
+//! Every function takes any numbers. One that can refuse answers a [`Refusal`], and then writes to no lent area (but for the
+//! means of [`pass`] under [`Refusal::NoShiftFits`]).
+
+mod refusal;
+
+pub use refusal::Refusal;
+
+/// A length.
+#[repr(transparent)]
+#[derive(Clone, Copy, Debug, Default, PartialEq, PartialOrd)]
+pub struct Metres(pub f64);
+
+/// A time.
+#[repr(transparent)]
+#[derive(Clone, Copy, Debug, Default, PartialEq, PartialOrd)]
+pub struct Seconds(pub f64);
+
+/// A frequency.
+#[repr(transparent)]
+#[derive(Clone, Copy, Debug, Default, PartialEq, PartialOrd)]
+pub struct Hertz(pub f64);
+
+/// A count of nanoseconds; of an instant: since 1970-01-01, without leap seconds.
+#[repr(transparent)]
+#[derive(Clone, Copy, Debug, Default, PartialEq, Eq, PartialOrd, Ord)]
+pub struct Nanoseconds(pub i64);
+
+/// A velocity.
+#[repr(transparent)]
+#[derive(Clone, Copy, Debug, Default, PartialEq, PartialOrd)]
+pub struct MetresPerSecond(pub f64);
+
+/// A slope of the frequency.
+#[repr(transparent)]
+#[derive(Clone, Copy, Debug, Default, PartialEq, PartialOrd)]
+pub struct HertzPerSecond(pub f64);
+
+/// x, y and z, earth-centred and earth-fixed.
+pub type Position = [Metres; 3];
+
+/// Ten rows of ten.
+pub type Matrix = [[f64; 10]; 10];
+
+/// A table of coordinates: its instants, strictly rising, and a position for each.
+#[derive(Clone, Copy, Debug)]
+pub struct Table<'a> {
+    pub instants: &'a [Nanoseconds],
+    pub positions: &'a [Position],
+}
+
+/// A recording: the instants of its samples, in any order, and a frequency for each.
+#[derive(Clone, Copy, Debug)]
+pub struct Recording<'a> {
+    pub instants: &'a [Nanoseconds],
+    pub frequencies: &'a [Hertz],
+}
+
+/// The two areas that are lent for the means of a recording, each at least as long as the recording.
+#[derive(Debug)]
+pub struct MeansArea<'a> {
+    pub instants: &'a mut [Nanoseconds],
+    pub frequencies: &'a mut [Hertz],
+}
+
+/// What a fit answers.
+#[derive(Clone, Copy, Debug, PartialEq)]
+pub struct Report {
+    /// Above zero where the recorder's clock is ahead of the table's.
+    pub clock_offset: Seconds,
+    pub frequency_offset: Hertz,
+    pub rmse: Hertz,
+    /// Of the means in a pass, of the samples in a fit.
+    pub count: u64,
+}
+
+/// The Chebyshev model of ten coordinates: the end times in seconds, then ten coefficients each of x, y and z in metres.
+#[repr(transparent)]
+#[derive(Clone, Copy, Debug, PartialEq)]
+pub struct ChebyshevModel(pub [f64; 32]);
+
+/// Where a satellite is and how it moves.
+#[derive(Clone, Copy, Debug, PartialEq)]
+pub struct Motion {
+    pub position: Position,
+    pub velocity: [MetresPerSecond; 3],
+}
+
+impl Motion {
+    fn of([x, y, z, vx, vy, vz]: [f64; 6]) -> Self {
+        Motion {
+            position: [x, y, z].map(Metres),
+            velocity: [vx, vy, vz].map(MetresPerSecond),
+        }
+    }
+}
+
+impl Report {
+    fn of([clock_offset, frequency_offset, rmse]: [f64; 3], count: u64) -> Self {
+        Report {
+            clock_offset: Seconds(clock_offset),
+            frequency_offset: Hertz(frequency_offset),
+            rmse: Hertz(rmse),
+            count,
+        }
+    }
+}
+
+// SAFETY: these are the signatures of include/orbit.h. A transparent type passes as its number does; a slice is a pointer and a
+// count; a reference is a pointer that is never null. The functions without slices take any arguments, so they are safe.
+unsafe extern "C" {
+    safe fn orbit_sqrt(x: f64) -> f64;
+    safe fn orbit_nearest(n: i64) -> f64;
+    safe fn orbit_truncated(x: f64) -> i64;
+    safe fn orbit_evaluate_chebyshev(c: &[f64; 10], tau: f64, value: &mut f64, slope: &mut f64);
+    safe fn orbit_invert_matrix_10(rows: &Matrix, inverse: &mut Matrix) -> u8;
+    safe fn orbit_evaluate(model: &ChebyshevModel, instant: Nanoseconds, out: &mut [f64; 6]) -> u8;
+    safe fn orbit_estimate_slant_range(f0: Hertz, slope: HertzPerSecond) -> Metres;
+    fn orbit_get_chebyshev_model(
+        instants: *const Nanoseconds,
+        instant_count: usize,
+        positions: *const Metres,
+        position_count: usize,
+        instant: Nanoseconds,
+        model: &mut ChebyshevModel,
+    ) -> u8;
+    fn orbit_propagate_ecef(
+        instants: *const Nanoseconds,
+        instant_count: usize,
+        positions: *const Metres,
+        position_count: usize,
+        instant: Nanoseconds,
+        out: &mut [f64; 6],
+    ) -> u8;
+    fn orbit_find_pca_time(
+        instants: *const Nanoseconds,
+        instant_count: usize,
+        positions: *const Metres,
+        position_count: usize,
+        ox: Metres,
+        oy: Metres,
+        oz: Metres,
+        instant: Nanoseconds,
+        found: &mut Nanoseconds,
+    ) -> u8;
+    fn orbit_downsample_data(
+        instants: *const Nanoseconds,
+        instant_count: usize,
+        frequencies: *const Hertz,
+        frequency_count: usize,
+        mean_instants: *mut Nanoseconds,
+        mean_instant_count: usize,
+        mean_frequencies: *mut Hertz,
+        mean_frequency_count: usize,
+        count: &mut u64,
+    ) -> u8;
+    fn orbit_estimate_measured_pca_time(
+        instants: *const Nanoseconds,
+        instant_count: usize,
+        frequencies: *const Hertz,
+        frequency_count: usize,
+        found: &mut Nanoseconds,
+    ) -> u8;
+    fn orbit_steepest_slope(
+        instants: *const Nanoseconds,
+        instant_count: usize,
+        frequencies: *const Hertz,
+        frequency_count: usize,
+        slope: &mut HertzPerSecond,
+    ) -> u8;
+    fn orbit_fit_satellite(
+        instants: *const Nanoseconds,
+        instant_count: usize,
+        positions: *const Metres,
+        position_count: usize,
+        samples: *const Nanoseconds,
+        sample_count: usize,
+        frequencies: *const Hertz,
+        frequency_count: usize,
+        ox: Metres,
+        oy: Metres,
+        oz: Metres,
+        f0: Hertz,
+        measured: Nanoseconds,
+        report: &mut [f64; 3],
+        count: &mut u64,
+    ) -> u8;
+    fn orbit_pass(
+        instants: *const Nanoseconds,
+        instant_count: usize,
+        positions: *const Metres,
+        position_count: usize,
+        samples: *const Nanoseconds,
+        sample_count: usize,
+        frequencies: *const Hertz,
+        frequency_count: usize,
+        ox: Metres,
+        oy: Metres,
+        oz: Metres,
+        f0: Hertz,
+        mean_instants: *mut Nanoseconds,
+        mean_instant_count: usize,
+        mean_frequencies: *mut Hertz,
+        mean_frequency_count: usize,
+        report: &mut [f64; 3],
+        count: &mut u64,
+    ) -> u8;
+}
+
+/// The square root, correctly rounded. A zero gives itself, a negative number or NaN gives NaN, infinity infinity.
+pub fn sqrt(x: f64) -> f64 {
+    orbit_sqrt(x)
+}
+
+/// The double nearest n, ties to even.
+pub fn nearest(n: i64) -> f64 {
+    orbit_nearest(n)
+}
+
+/// x cut toward zero to a whole number; past the range the nearer end, 0 for NaN.
+pub fn truncated(x: f64) -> i64 {
+    orbit_truncated(x)
+}
+
+/// The sum of c\[j\] · Tj(tau), j from 0 to 9, and its slope for each unit of tau.
+pub fn evaluate_chebyshev(c: &[f64; 10], tau: f64) -> (f64, f64) {
+    let (mut value, mut slope) = (0.0, 0.0);
+    orbit_evaluate_chebyshev(c, tau, &mut value, &mut slope);
+    (value, slope)
+}
+
+/// The inverse. Refuses by 8.
+pub fn invert_matrix_10(rows: &Matrix) -> Result<Matrix, Refusal> {
+    let mut inverse = [[0.0; 10]; 10];
+    let number = orbit_invert_matrix_10(rows, &mut inverse);
+    Refusal::or(number, inverse)
+}
+
+/// The Chebyshev model of the ten coordinates about an instant. Refuses by 1, 4, 5, 6, 8.
+pub fn get_chebyshev_model(table: Table, instant: Nanoseconds) -> Result<ChebyshevModel, Refusal> {
+    let (instants, positions) = (table.instants, table.positions.as_flattened());
+    let mut model = ChebyshevModel([0.0; 32]);
+    // SAFETY: each pointer is to as many numbers as the count after it says.
+    let number = unsafe {
+        orbit_get_chebyshev_model(
+            instants.as_ptr(),
+            instants.len(),
+            positions.as_ptr(),
+            positions.len(),
+            instant,
+            &mut model,
+        )
+    };
+    Refusal::or(number, model)
+}
+
+/// Position and velocity by such a model at an instant. Refuses by 4.
+pub fn evaluate(model: &ChebyshevModel, instant: Nanoseconds) -> Result<Motion, Refusal> {
+    let mut out = [0.0; 6];
+    let number = orbit_evaluate(model, instant, &mut out);
+    Refusal::or(number, Motion::of(out))
+}
+
+/// Position and velocity by a table at an instant; outside the table they are extrapolated. Refuses by 1, 4, 5, 6, 8.
+pub fn propagate_ecef(table: Table, instant: Nanoseconds) -> Result<Motion, Refusal> {
+    let (instants, positions) = (table.instants, table.positions.as_flattened());
+    let mut out = [0.0; 6];
+    // SAFETY: each pointer is to as many numbers as the count after it says.
+    let number = unsafe {
+        orbit_propagate_ecef(
+            instants.as_ptr(),
+            instants.len(),
+            positions.as_ptr(),
+            positions.len(),
+            instant,
+            &mut out,
+        )
+    };
+    Refusal::or(number, Motion::of(out))
+}
+
+/// The instant at which the satellite is closest to the observer, to the second, within 51 minutes of an instant.
+/// Refuses by 1, 4, 5, 6.
+pub fn find_pca_time(
+    table: Table,
+    [ox, oy, oz]: Position,
+    instant: Nanoseconds,
+) -> Result<Nanoseconds, Refusal> {
+    let (instants, positions) = (table.instants, table.positions.as_flattened());
+    let mut found = Nanoseconds(0);
+    // SAFETY: each pointer is to as many numbers as the count after it says.
+    let number = unsafe {
+        orbit_find_pca_time(
+            instants.as_ptr(),
+            instants.len(),
+            positions.as_ptr(),
+            positions.len(),
+            ox,
+            oy,
+            oz,
+            instant,
+            &mut found,
+        )
+    };
+    Refusal::or(number, found)
+}
+
+/// The means of a recording, one for each second that holds a sample, seconds rising, at the front of the areas; their number.
+/// The rest of each area stays. Refuses by 2, 3, 4.
+pub fn downsample_data(recording: Recording, means: MeansArea) -> Result<u64, Refusal> {
+    let (instants, frequencies) = (recording.instants, recording.frequencies);
+    let mut count = 0;
+    // SAFETY: each pointer is to as many numbers as the count after it says; nothing overlaps the lent areas.
+    let number = unsafe {
+        orbit_downsample_data(
+            instants.as_ptr(),
+            instants.len(),
+            frequencies.as_ptr(),
+            frequencies.len(),
+            means.instants.as_mut_ptr(),
+            means.instants.len(),
+            means.frequencies.as_mut_ptr(),
+            means.frequencies.len(),
+            &mut count,
+        )
+    };
+    Refusal::or(number, count)
+}
+
+/// The instant of the sample about which a recording's frequency falls fastest, the first of equals. Refuses by 2, 4, 9.
+pub fn estimate_measured_pca_time(recording: Recording) -> Result<Nanoseconds, Refusal> {
+    let (instants, frequencies) = (recording.instants, recording.frequencies);
+    let mut found = Nanoseconds(0);
+    // SAFETY: each pointer is to as many numbers as the count after it says.
+    let number = unsafe {
+        orbit_estimate_measured_pca_time(
+            instants.as_ptr(),
+            instants.len(),
+            frequencies.as_ptr(),
+            frequencies.len(),
+            &mut found,
+        )
+    };
+    Refusal::or(number, found)
+}
+
+/// The steepest slope of a recording's frequency that is at least −120 Hz/s; 0.0 where none is below zero. Refuses by 2, 4.
+pub fn steepest_slope(recording: Recording) -> Result<HertzPerSecond, Refusal> {
+    let (instants, frequencies) = (recording.instants, recording.frequencies);
+    let mut slope = HertzPerSecond(0.0);
+    // SAFETY: each pointer is to as many numbers as the count after it says.
+    let number = unsafe {
+        orbit_steepest_slope(
+            instants.as_ptr(),
+            instants.len(),
+            frequencies.as_ptr(),
+            frequencies.len(),
+            &mut slope,
+        )
+    };
+    Refusal::or(number, slope)
+}
+
+/// The distance to the satellite at its closest, from the centre frequency and the steepest slope;
+/// 2,000,000 m where the slope's magnitude is at most 0.1 or NaN.
+pub fn estimate_slant_range(f0: Hertz, slope: HertzPerSecond) -> Metres {
+    orbit_estimate_slant_range(f0, slope)
+}
+
+/// The fit of a recording to a satellite, about the instant of its measured approach. Refuses by 1, 2, 4, 5, 6, 7, 10.
+pub fn fit_satellite(
+    table: Table,
+    recording: Recording,
+    [ox, oy, oz]: Position,
+    f0: Hertz,
+    measured: Nanoseconds,
+) -> Result<Report, Refusal> {
+    let (instants, positions) = (table.instants, table.positions.as_flattened());
+    let (samples, frequencies) = (recording.instants, recording.frequencies);
+    let (mut report, mut count) = ([0.0; 3], 0);
+    // SAFETY: each pointer is to as many numbers as the count after it says.
+    let number = unsafe {
+        orbit_fit_satellite(
+            instants.as_ptr(),
+            instants.len(),
+            positions.as_ptr(),
+            positions.len(),
+            samples.as_ptr(),
+            samples.len(),
+            frequencies.as_ptr(),
+            frequencies.len(),
+            ox,
+            oy,
+            oz,
+            f0,
+            measured,
+            &mut report,
+            &mut count,
+        )
+    };
+    Refusal::or(number, Report::of(report, count))
+}
+
+/// The whole pass: the means of a recording, at the front of the areas, their measured approach or else the mean at index
+/// count / 2, and the fit of the means. Refuses by 1, 2, 3, 4, 5, 6, 7, 10; under 10 the means stay written.
+pub fn pass(
+    table: Table,
+    recording: Recording,
+    [ox, oy, oz]: Position,
+    f0: Hertz,
+    means: MeansArea,
+) -> Result<Report, Refusal> {
+    let (instants, positions) = (table.instants, table.positions.as_flattened());
+    let (samples, frequencies) = (recording.instants, recording.frequencies);
+    let (mut report, mut count) = ([0.0; 3], 0);
+    // SAFETY: each pointer is to as many numbers as the count after it says; nothing overlaps the lent areas.
+    let number = unsafe {
+        orbit_pass(
+            instants.as_ptr(),
+            instants.len(),
+            positions.as_ptr(),
+            positions.len(),
+            samples.as_ptr(),
+            samples.len(),
+            frequencies.as_ptr(),
+            frequencies.len(),
+            ox,
+            oy,
+            oz,
+            f0,
+            means.instants.as_mut_ptr(),
+            means.instants.len(),
+            means.frequencies.as_mut_ptr(),
+            means.frequencies.len(),
+            &mut report,
+            &mut count,
+        )
+    };
+    Refusal::or(number, Report::of(report, count))
+}

@@ -1,0 +1,113 @@
+//! What the ten refusals of the library mean, in the words of include/orbit.h.
+
+use std::fmt;
+
+/// Why the library gave no answer. The checks are made in this order; the first that fails is the refusal.
+#[derive(Clone, Copy, Debug, PartialEq, Eq)]
+pub enum Refusal {
+    CoordinateCount = 1,
+    SampleCount = 2,
+    AreaTooShort = 3,
+    InstantBeyondLimit = 4,
+    InstantsNotRising = 5,
+    PositionBeyondLimits = 6,
+    FrequencyUnusable = 7,
+    PivotTooSmall = 8,
+    NoApproach = 9,
+    NoShiftFits = 10,
+}
+
+use Refusal::*;
+
+/// Every refusal, with what is wrong and what to do; refusal 1 stands first.
+const TEXTS: [(Refusal, &str, &str); 10] = [
+    (
+        CoordinateCount,
+        "fewer than 10 or more than 4,096 coordinates, or not three position numbers for each instant.",
+        "lend a part of the table with 10 to 4,096 coordinates, and all three numbers of each.",
+    ),
+    (
+        SampleCount,
+        "no sample, more than 4,096, or not one frequency for each instant.",
+        "cut the recording into parts of at most 4,096 samples, each instant with its frequency.",
+    ),
+    (
+        AreaTooShort,
+        "an area for the means is shorter than the recording.",
+        "lend two areas at least as long as the recording.",
+    ),
+    (
+        InstantBeyondLimit,
+        "an instant is more than 4,000,000,000,000,000,000 ns (some 126 years) from 1970-01-01.",
+        "look for a wrong unit or a damaged instant; instants are nanoseconds.",
+    ),
+    (
+        InstantsNotRising,
+        "the coordinates' instants do not strictly rise.",
+        "sort the table, and strike out coordinates that stand twice.",
+    ),
+    (
+        PositionBeyondLimits,
+        "a coordinate or the observer is not finite, has a component over 100,000,000 m, or all three under 1,000,000 m.",
+        "give metres, not kilometres; strike out blank entries.",
+    ),
+    (
+        FrequencyUnusable,
+        "a sample's frequency is not finite, or the centre frequency not finite or not above zero.",
+        "strike out the sample, or set the centre frequency, in hertz.",
+    ),
+    (
+        PivotTooSmall,
+        "a column's pivot has a magnitude below 1e-12, so the matrix has no inverse that could be trusted.",
+        "look for repeated or missing nodes; in a table, for coordinates that lie too close together or too far apart.",
+    ),
+    (
+        NoApproach,
+        "no slope of the frequency is below zero, so the recording shows no approach.",
+        "take a recording that holds the closest approach, with at least three samples some milliseconds apart.",
+    ),
+    (
+        NoShiftFits,
+        "no shift of the clock fits the recording.",
+        "look whether recording, table, observer and centre frequency belong to the same pass.",
+    ),
+];
+
+impl Refusal {
+    /// The refusal's number, 1 to 10.
+    pub fn number(self) -> u8 {
+        self as u8
+    }
+
+    /// What is wrong.
+    pub fn what_is_wrong(self) -> &'static str {
+        self.texts().1
+    }
+
+    /// What to do about it.
+    pub fn what_to_do(self) -> &'static str {
+        self.texts().2
+    }
+
+    fn texts(self) -> &'static (Refusal, &'static str, &'static str) {
+        &TEXTS[usize::from(self.number()) - 1]
+    }
+
+    /// The answer where the library gave the number 0, otherwise the refusal of that number.
+    pub(crate) fn or<T>(number: u8, answer: T) -> Result<T, Refusal> {
+        match number {
+            0 => Ok(answer),
+            1..=10 => Err(TEXTS[usize::from(number) - 1].0),
+            _ => unreachable!("the library has no refusal {number}"),
+        }
+    }
+}
+
+impl fmt::Display for Refusal {
+    fn fmt(&self, out: &mut fmt::Formatter) -> fmt::Result {
+        let (number, (_, wrong, remedy)) = (self.number(), self.texts());
+        write!(out, "refused by {number}: {wrong} What to do: {remedy}")
+    }
+}
+
+impl std::error::Error for Refusal {}
