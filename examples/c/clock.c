@@ -77,6 +77,10 @@ static uint8_t run_pass(const pass_input *input, pass_answer *answer)
 
 static void print_refusal(uint8_t refusal)
 {
+    if (refusal == 0) {
+        printf("NOT refused\n");
+        return;
+    }
     printf("refused by        %" PRIu8 "\n", refusal);
     printf("what is wrong     %s\n", what_is_wrong(refusal));
     printf("what to do        %s\n", what_to_do(refusal));

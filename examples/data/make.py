@@ -110,10 +110,16 @@ def write(folder, name, says, rows):
 def main():
     folder = sys.argv[1] if len(sys.argv) > 1 else os.path.dirname(os.path.abspath(__file__))
     x, y, z = observer()
-    write(folder, "table.inc", "Synthetic. Instant in ns since 1970-01-01; x, y, z of the satellite in m, earth-fixed.", table())
-    write(folder, "recording.inc", "Synthetic. Instant in ns since 1970-01-01, by the recorder's clock; frequency in Hz.", recording())
-    write(folder, "station.inc", "Synthetic. x, y, z of the observer in m, earth-fixed; centre frequency in Hz.", [f"{{{x}, {y}, {z}, {CENTRE}}},"])
-    write(folder, "known.inc", "Clock offset in s and frequency offset in Hz that went into recording.inc.", [f"{{{CLOCK_OFFSET_MS / 1000}, {FREQUENCY_OFFSET}}},"])
+    station = f"{{{x}, {y}, {z}, {CENTRE}}},"
+    known = f"{{{CLOCK_OFFSET_MS / 1000}, {FREQUENCY_OFFSET}}},"
+    write(folder, "table.inc",
+          "Synthetic. Instant in ns since 1970-01-01; x, y, z of the satellite in m, earth-fixed.", table())
+    write(folder, "recording.inc",
+          "Synthetic. Instant in ns since 1970-01-01, by the recorder's clock; frequency in Hz.", recording())
+    write(folder, "station.inc",
+          "Synthetic. x, y, z of the observer in m, earth-fixed; centre frequency in Hz.", [station])
+    write(folder, "known.inc",
+          "Clock offset in s and frequency offset in Hz that went into recording.inc.", [known])
     print(f"closest approach: {distance(closest()):.0f} m, {closest()} s after the table's row {ROWS // 2 + 1}")
 
 
