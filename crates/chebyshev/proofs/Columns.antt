@@ -4,7 +4,7 @@ use mathlib.Core.Bool.{Bool, true, false, not}
 use Prim.Native.Nat.{ℕ, zero, suc, _+_, _-_, _≤_, _<_}
 use native.Mathlib.Omega.{arith}
 use lib.Ieee.{Float, lt}
-use Rattle.float.specs.Magnitude.{magnitudeOf}
+use Rattle.float.specs.Signs.{magnitudeOf}
 use Rattle.chebyshev.specs.Inverse.{Row, Matrix, Outcome, singular, inverse, cell, exchanged, leastPivot, tooSmall, pivotRow, scaledAt, column, clearedBy, clearedColumn, Cleared, columnsFrom}
 
 -- the pivot's test, by the row that was found and its magnitude

@@ -14,7 +14,7 @@ use lib.Ieee.{Float, nan, binary64, div, sub, mul, lt}
 use lib.Dec.{eqb}
 use borrow.Author.Tests.{eq-eqb, ne-eqb}
 use native.Mathlib.Omega.{arith}
-use Rattle.float.specs.Magnitude.{magnitudeOf}
+use Rattle.float.specs.Signs.{magnitudeOf}
 use Rattle.chebyshev.specs.Inverse.{Row, Matrix, cell, choose, divided, reduced, cleared, exchanged, seek, RowPut}
 
 pub divided-step : (p : Float) (l : Row) (c : ℕ) → c < length l

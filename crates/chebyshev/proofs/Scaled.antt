@@ -8,7 +8,8 @@ use lib.ListN.{length, getD, drop, replicate}
 use lib.Ieee.{Float, nan, binary64, add, mul}
 use Rattle.chebyshev.specs.Lists.{listOf}
 use Rattle.chebyshev.specs.Recurrence.{rounded, weighted, weightedFrom}
-use Rattle.chebyshev.specs.Inverse.{Row, Matrix, cell, column, nought}
+use Rattle.chebyshev.specs.Inverse.{Row, Matrix, cell, column}
+use Rattle.float.specs.Numbers.{nought}
 use Rattle.chebyshev.specs.Ideal.{transposed}
 use Rattle.chebyshev.specs.Coefficients.{scaledOnto}
 use Rattle.chebyshev.proofs.Filled.{length-listOf, getD-listOf}

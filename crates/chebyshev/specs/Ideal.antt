@@ -1,15 +1,21 @@
 -- The ideal nodes of an even window and the matrix of the polynomials there, which the `OnceLock` of the Rust keeps inverted.
 use Prim.Native.Nat.{ℕ}
 use lib.IntN.{pos}
-use mathlib.Core.Bool.{true, false}
-use lib.Ieee.{Float, fin, binary64, add, mul, div, ofInt}
+use mathlib.Core.Bool.{true}
+use lib.Ieee.{Float, fin, binary64, add, mul, div}
+use Rattle.float.specs.Numbers.{two, nine}
+use Rattle.float.specs.Conversions.{nearestOf}
 use Rattle.chebyshev.specs.Lists.{listOf}
 use Rattle.chebyshev.specs.Recurrence.{rounded, polynomials, terms}
 use Rattle.chebyshev.specs.Inverse.{Matrix, column, order}
 
+-- −1.0
+abbrev pub minusOne : Float
+minusOne = fin true 1 (pos 0)
+
 -- "ideal nodes −1 + 2k/9": −1.0 + ((2.0 × k) / 9.0), each operation rounded once
 abbrev pub idealNode : ℕ → Float
-idealNode k = add binary64 (fin true 1 (pos 0)) (div binary64 (mul binary64 (fin false 1 (pos 1)) (ofInt binary64 (pos k))) (fin false 9 (pos 0)))
+idealNode k = add binary64 minusOne (div binary64 (mul binary64 two (nearestOf (pos k))) nine)
 
 -- row k holds T0 to T9 at node k
 abbrev pub idealMatrix : Matrix

@@ -8,7 +8,8 @@ use lib.Dec.{eqb}
 use lib.ListN.{length, getD, set, replicate}
 use lib.IntN.{pos}
 use lib.Ieee.{Float, nan, fin, binary64, sub, mul, div, lt, ofBits}
-use Rattle.float.specs.Magnitude.{magnitudeOf}
+use Rattle.float.specs.Numbers.{nought, one}
+use Rattle.float.specs.Signs.{magnitudeOf}
 use Rattle.chebyshev.specs.declared.inverse.Inverse.{Inverse}
 use Rattle.chebyshev.specs.Lists.{listOf}
 
@@ -21,13 +22,6 @@ Matrix = List Row
 -- rows, and numbers in a row
 abbrev pub order : ℕ
 order = 10
-
--- +0.0 and 1.0
-abbrev pub nought : Float
-nought = fin false 0 (pos 0)
-
-abbrev pub unity : Float
-unity = fin false 1 (pos 0)
 
 -- 1e-12, the smallest pivot that is taken: 4951760157141521 / 2 ^ 92
 abbrev pub leastPivot : Float
@@ -123,7 +117,7 @@ columnsFrom (suc n) i t v =
 
 -- the identity's numbers
 abbrev pub unitCell : ℕ → ℕ → Float
-unitCell r c = choose (eqb c r) unity nought
+unitCell r c = choose (eqb c r) one nought
 
 abbrev pub unitRows : Matrix
 unitRows = listOf (λ r. listOf (unitCell r) order 0) order 0

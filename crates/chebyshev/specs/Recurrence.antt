@@ -4,8 +4,8 @@
 use Prim.Native.Nat.{ℕ, zero, suc, _+_, _*_, _^_}
 use mathlib.Core.List.{List, [], _∷_}
 use lib.IntN.{ℤ, pos, _+ℤ_, _-ℤ_, _*ℤ_}
-use mathlib.Core.Bool.{false}
-use lib.Ieee.{Float, fin, binary64, add, sub, mul}
+use lib.Ieee.{Float, binary64, add, sub, mul}
+use Rattle.float.specs.Numbers as Numbers
 use Rattle.chebyshev.specs.Lists.{listOf}
 
 -- what the recurrence needs of a number
@@ -61,9 +61,9 @@ slopeOf a c τ = weighted a c (derivatives a τ)
 -- doubles: each operation rounds once
 abbrev pub rounded : Arithmetic Float
 rounded = record {
-  nought = fin false 0 (pos 0);
-  unity = fin false 1 (pos 0);
-  two = fin false 1 (pos 1);
+  nought = Numbers.nought;
+  unity = Numbers.one;
+  two = Numbers.two;
   plus = add binary64;
   less = sub binary64;
   times = mul binary64;

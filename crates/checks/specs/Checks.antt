@@ -7,8 +7,9 @@ use lib.IntN.{ℤ, natAbs}
 use lib.Signed.{ltZ}
 use lib.ListN.{length}
 use lib.Ieee.{Float, nan, inf, fin, lt, le}
-use Rattle.float.specs.Magnitude.{magnitudeOf}
-use Rattle.checks.specs.Limits.{leastCoordinates, mostCoordinates, axes, mostSamples, farthestInstant, farthest, closest, nought}
+use Rattle.float.specs.Signs.{magnitudeOf}
+use Rattle.checks.specs.Limits.{leastCoordinates, mostCoordinates, axes, mostSamples, farthestInstant, farthest, closest}
+use Rattle.float.specs.Numbers.{nought}
 
 -- whether one of a list is such
 unfoldable pub any : {A : Type 0} → (A → Bool) → List A → Bool

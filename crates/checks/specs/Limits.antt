@@ -30,7 +30,3 @@ farthest = fin false 390625 (pos 8)
 -- "all three magnitudes under 1,000,000 m": 5 ^ 6 * 2 ^ 6
 abbrev pub closest : Float
 closest = fin false 15625 (pos 6)
-
--- +0.0
-abbrev pub nought : Float
-nought = fin false 0 (pos 0)

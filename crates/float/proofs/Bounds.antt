@@ -13,7 +13,7 @@ use lib.Ieee.Exact.{HasValue, round-exact}
 use lib.Ieee.Fits.{down-pos, up-pos, and-l, core, round-is}
 use lib.Ieee.Bits.{cond-no}
 use lib.Ieee.Order.{round-mono}
-use Rattle.float.specs.Magnitude.{Within, AtLeast}
+use Rattle.float.specs.Signs.{Within, AtLeast}
 use Rattle.float.specs.Conversions.{nearestOf, truncatedOf, wholePart, largest, leastMagnitude}
 use Rattle.float.proofs.Integers.{neg-round}
 

@@ -5,10 +5,10 @@ use Prim.Native.Nat.{ℕ, _+_, _*_, _≤_, _<_}
 use native.Mathlib.Nat.{mul-pos}
 use native.Mathlib.Omega.{arith}
 use mathlib.Core.Bool.{Bool, true, false, not, _&&_, _||_, Bool·beq}
-use lib.Dec.{T, T-not, ltb, ltb→lt, lt→ltb, nltb→le, not-T, eqb, eqb-refl}
+use lib.Dec.{T, T-not, ltb, ltb→lt, lt→ltb, nltb→le, not-T, eqb, eqb-refl, eqb→eq}
 use lib.IntN.{ℤ}
-use lib.Ieee.{Float, nan, inf, fin, up, down, below, level, lt, le}
-use lib.Ieee.Fits.{down-pos}
+use lib.Ieee.{Float, nan, inf, fin, up, down, below, level, lt, eq, le}
+use lib.Ieee.Fits.{down-pos, and-l, and-r}
 use lib.Ieee.Positive.{through, first-pos}
 
 abbrev pub number : Float → Bool
@@ -176,3 +176,40 @@ at-least (fin s m e) nan i n h = absurd n
 at-least (fin s m e) (inf true) i n h = absurd h
 at-least (fin s m e) (inf false) i n h = tt
 at-least (fin s m e) (fin t n d) i j h = below-level s t (m * up e * down d) (n * up d * down e) h
+
+-- ---- at least is not below
+
+-- by the signs and the numbers above one bar
+level-not-below : (s t : Bool) (a b : ℕ) → T (level s a t b) → T (not (below t b s a))
+level-not-below s t a b h = go s t (eqb→eq a b (and-l (eqb a b) (Bool·beq s t || eqb a 0) h)) (and-r (eqb a b) (Bool·beq s t || eqb a 0) h)
+  where
+    not-less : (m n : ℕ) → n ≤ m → T (not (ltb m n))
+    not-less m n h = not-T (ltb m n) (λ l. omega (arith, ltb→lt m n l))
+
+    go : (s t : Bool) → a ≡ b → T (Bool·beq s t || eqb a 0) → T (not (below t b s a))
+    go false false e k = not-less b a (omega arith)
+    go false true e k = not-less 0 (b + a) (omega (arith, eqb→eq a 0 k))
+    go true false e k = tt
+    go true true e k = not-less a b (omega arith)
+
+eq-not-lt : (x y : Float) → T (eq x y) → T (not (lt y x))
+unfolding eq lt
+eq-not-lt nan y h = absurd h
+eq-not-lt (inf s) nan h = absurd h
+eq-not-lt (inf true) (inf true) h = tt
+eq-not-lt (inf true) (inf false) h = tt
+eq-not-lt (inf false) (inf true) h = h
+eq-not-lt (inf false) (inf false) h = tt
+eq-not-lt (inf s) (fin t n d) h = absurd h
+eq-not-lt (fin s m e) nan h = absurd h
+eq-not-lt (fin s m e) (inf t) h = absurd h
+eq-not-lt (fin s m e) (fin t n d) h = level-not-below s t (m * up e * down d) (n * up d * down e) h
+
+-- what is at least x is not below it
+pub le-not-lt : (x y : Float) → T (le x y) → T (not (lt y x))
+unfolding le
+le-not-lt x y h = go (lt x y) (lt-asym x y) h
+  where
+    go : (v : Bool) → (T v → T (not (lt y x))) → T (v || eq x y) → T (not (lt y x))
+    go true f h = f tt
+    go false f h = eq-not-lt x y h

@@ -10,7 +10,7 @@ use lib.IntN.{ℤ, pos, negsuc}
 use borrow.Author.Tests.{ltb-true, ltb-false, eqb-true, eqb-false, eq-eqb}
 use lib.Ieee.{Float, nan, inf, fin, binary64, lt, eq, neg, fits, up, down}
 use lib.Ieee.Fits.{up-pos}
-use Rattle.float.specs.Magnitude.{magnitudeOf}
+use Rattle.float.specs.Signs.{magnitudeOf}
 
 abbrev zero-double : Float
 zero-double = fin false 0 (pos 0)

@@ -4,37 +4,29 @@ use mathlib.Core.Path.{_≡_, refl, sym, ap, ap₂, _∙_, subst}
 use mathlib.Core.List.{List}
 use Prim.Native.Nat.{ℕ, zero, suc, _+_, _*_, _/_, _≤_, _<_}
 use native.Mathlib.Omega.{arith}
-use native.Mathlib.Nat.{le-trans, mul-le-mul-right}
 use lib.IntN.{ℤ, pos, negsuc, negℤ, natAbs, _+ℤ_, _-ℤ_, _*ℤ_, +ℤ-assoc, +ℤ-invr, +ℤ-idl, negℤ-+ℤ}
 use lib.Signed.{mag, quotZ}
 use lib.Ieee.{Float, binary64, div}
 use Rattle.units.specs.declared.Observer.{Observer}
-use Rattle.float.specs.Magnitude.{Within, AtLeast}
+use Rattle.float.specs.Signs.{Within, AtLeast}
 use Rattle.float.specs.Conversions.{nearestOf}
 use Rattle.float.proofs.Bounds.{div-within, nearest-within}
 use Rattle.samples.specs.Approach.{gapOf, thousand, millisecond}
-use Rattle.orbit.specs.Closest.{later, bySeconds, closestInstant}
-use Rattle.float.proofs.SignedBounds.{mag-add, mag-times, mag-natAbs}
+use Rattle.orbit.specs.Closest.{movedBySeconds, bySeconds, closestInstant}
+use Rattle.float.proofs.SignedBounds.{mag-add, mag-natAbs}
+use Rattle.orbit.proofs.Offsets.{seconds-mag}
 use Rattle.orbit.proofs.Ranges.{seconds-small}
 
 natAbs-mag : (z : ℤ) (n : ℕ) → mag z ≤ n → natAbs z ≤ suc n
 natAbs-mag (pos a) n h = omega arith
 natAbs-mag (negsuc a) n h = omega arith
 
-seconds-mag : (z : ℤ) → natAbs z ≤ 10000 → mag (z *ℤ pos 1000000000) ≤ 10001000000000
-seconds-mag z h =
-    let m = mag-natAbs z 10000 h in
-    le-trans (mag-times z 1000000000) (le-trans (mul-le-mul-right 1000000000 (more (mag z) m)) (omega arith))
-  where
-    more : (m : ℕ) → m ≤ 10000 → suc m ≤ 10001
-    more m h = omega arith
-
-later-near : (t z : ℤ) → natAbs t ≤ 4000000000000000000 → natAbs z ≤ 10000 → natAbs (later t z) ≤ 4100000000000000000
+later-near : (t z : ℤ) → natAbs t ≤ 4000000000000000000 → natAbs z ≤ 10000 → natAbs (movedBySeconds t z) ≤ 4100000000000000000
 later-near t z h k =
     let m = mag-natAbs t 4000000000000000000 h in
     let a = mag-add t (z *ℤ pos 1000000000) in
     let s = seconds-mag z k in
-    natAbs-mag (later t z) 4099999999999999999 (omega (arith, a, m, s))
+    natAbs-mag (movedBySeconds t z) 4099999999999999999 (omega (arith, a, m, s))
 
 -- from a moved instant back
 difference : (m y : ℤ) → m -ℤ (m +ℤ y) ≡ negℤ y
@@ -49,13 +41,13 @@ quotient-small : (z : ℤ) → natAbs z ≤ 10001000000001 → natAbs (quotZ z (
 quotient-small (pos a) h = omega arith
 quotient-small (negsuc a) h = let e = natAbs-neg (pos (suc a / 1000000)) in omega (arith, e)
 
-gap-small : (m z : ℤ) → natAbs z ≤ 10000 → Within 10001 (gapOf (later m z) m)
+gap-small : (m z : ℤ) → natAbs z ≤ 10000 → Within 10001 (gapOf (movedBySeconds m z) m)
 gap-small m z h =
     let y = z *ℤ pos 1000000000 in
     let a : natAbs y ≤ 10001000000001 = natAbs-mag y 10001000000000 (seconds-mag z h) in
-    let b : natAbs (m -ℤ later m z) ≤ 10001000000001 = subst (λ (x : ℤ). natAbs x ≤ 10001000000001) (sym (difference m y)) (subst (λ (n : ℕ). n ≤ 10001000000001) (sym (natAbs-neg y)) a) in
-    let q = quotient-small (m -ℤ later m z) b in
-    div-within 10001 1000 (nearestOf (quotZ (m -ℤ later m z) (pos millisecond))) thousand (omega arith) (omega arith) (nearest-within 10001000 (quotZ (m -ℤ later m z) (pos millisecond)) (omega arith) q) (omega arith)
+    let b : natAbs (m -ℤ movedBySeconds m z) ≤ 10001000000001 = subst (λ (x : ℤ). natAbs x ≤ 10001000000001) (sym (difference m y)) (subst (λ (n : ℕ). n ≤ 10001000000001) (sym (natAbs-neg y)) a) in
+    let q = quotient-small (m -ℤ movedBySeconds m z) b in
+    div-within 10001 1000 (nearestOf (quotZ (m -ℤ movedBySeconds m z) (pos millisecond))) thousand (omega arith) (omega arith) (nearest-within 10001000 (quotZ (m -ℤ movedBySeconds m z) (pos millisecond)) (omega arith) q) (omega arith)
 
 module _ (tolerance : Float) (instants : List ℤ) (positions : List Float) (o : Observer) (measured : ℤ) where
   pub predicted-near : natAbs measured ≤ 4000000000000000000 → natAbs (closestInstant tolerance instants positions o measured) ≤ 4100000000000000000

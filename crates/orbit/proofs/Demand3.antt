@@ -12,22 +12,23 @@ use lib.IntN.{ℤ}
 use lib.ListN.{length, getD, drop, length-map}
 use lib.Ieee.{Float, nan, binary64, sub, lt, le}
 use Rattle.float.specs.Root.{root}
-use Rattle.float.specs.Magnitude.{magnitudeOf}
+use Rattle.float.specs.Signs.{magnitudeOf}
 use Rattle.checks.specs.Outcome.{Outcome, refused, answered, unlessRefused, area}
 use Rattle.checks.specs.Entries.{check, firstFailing}
 use Rattle.checks.proofs.Passed.{pass-areas}
 use Rattle.samples.specs.Means.{Sample, recording, wholeSecond, bin, seconds, meanOf, means, instants, frequencies, Alike}
 use Rattle.samples.proofs.Seconds.{Rising, rising, held, listed, seconds-are, count-means, few-means, same-means}
 use Rattle.samples.proofs.OwnSeconds.{own-seconds, means-rise}
-use Rattle.checks.specs.Limits.{nought}
+use Rattle.float.proofs.Comparison.{le-not-lt}
+use Rattle.float.specs.Numbers.{nought, largestFinite}
 use Rattle.orbit.specs.declared.fit.Report.{Report}
 use Rattle.orbit.specs.Window.{windowSeconds, windowStart, inversionOf, modelOr}
 use Rattle.chebyshev.specs.Inverse.{Outcome as Inversion, singular, inverse}
 use Rattle.orbit.specs.Propagation.{Motion, evaluated, propagated}
-use Rattle.orbit.specs.Closest.{largest}
-use Rattle.orbit.specs.Fit.{Inputs, moved, residualIn, residualOf, keep, residuals, meanOver, deviation, Trial, trial, usable, five, fifteen, tenth, twentieth, thousandth, hundredThousandth, around, coarse, fine, micro, shifts, report, centreOf, fitted}
-use Rattle.orbit.specs.Pass.{measuredOf, passOutcome, passRefusal, passReport, passInstants, passFrequencies}
-use Rattle.orbit.proofs.FirstLeast.{at-least-the-winner's, place, and-both, le-not-lt, NoCoarse, refused-exactly, Chosen, exactly-one}
+use Rattle.orbit.specs.Fit.{Trial, trial, usable, five, fifteen, tenth, twentieth, thousandth, hundredThousandth, around, coarse, fine, micro, shifts, report, centreOf, fitted}
+use Rattle.orbit.specs.Residuals.{Inputs, moved, residualIn, residualOf, keep, residuals, meanOver, deviation}
+use Rattle.orbit.specs.Passes.{measuredOf, passOutcome, passRefusal, passReport, passInstants, passFrequencies}
+use Rattle.orbit.proofs.FirstLeast.{at-least-the-winner's, place, and-both, NoCoarse, refused-exactly, Chosen, exactly-one}
 use Rattle.orbit.proofs.Stages.{Stage, around-stage, fine-stage, micro-stage, coarse-length, Listing, coarse-alone, listing, listing-length}
 
 -- ---- the means
@@ -89,7 +90,7 @@ rmseFor i S x = root binary64 (meanOver (map (deviation (offsetFor i S x)) (resi
 
 -- a shift is usable exactly when more than half the means (whole-number half) can be propagated for it and its RMSE is below the largest finite double; a mean that cannot be is refused by 8
 pub record Usable (i : Inputs) (S : List Sample) : Type 0 where
-  pub exactly : (x : Float) → T (usable (tried i S x)) ↔ ((length (means S) / 2 < howMany (propagates i x) (means S)) × T (lt (rmseFor i S x) largest))
+  pub exactly : (x : Float) → T (usable (tried i S x)) ↔ ((length (means S) / 2 < howMany (propagates i x) (means S)) × T (lt (rmseFor i S x) largestFinite))
   pub rmse-is : (x : Float) → tried i S x .rmse ≡ rmseFor i S x
   pub else-8 : (x : Float) (m : Sample) (n : ℕ) → propagated (i .tolerance) (i .instants) (i .positions) (moved (m .instant) x) ≡ refused n → n ≡ 8
 
@@ -167,7 +168,7 @@ usable-is i S = record {
       let n = length (means S) / 2 in
       let m = length (residuals (residualOf i x) (means S)) in
       let e = left-many i x (means S) in
-      let small = lt (rmseFor i S x) largest in (
+      let small = lt (rmseFor i S x) largestFinite in (
         λ u. (omega (arith, ltb→lt n m (and-l (ltb n m) small u)), and-r (ltb n m) small u),
         λ u. and-both (ltb n m) small (lt→ltb n m (omega (arith, u .0))) (u .1),
       );

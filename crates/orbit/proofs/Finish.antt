@@ -1,25 +1,24 @@
 -- The stages as the code runs them end where the search of the whole list does; the centre and so every shift is small. Assumes nothing.
 use mathlib.Core.Path.{_≡_, refl, sym, ap, ap₂, _∙_, subst}
 use mathlib.Core.Bool.{Bool, true, false, cond}
-use mathlib.Core.List.{List, [], _∷_, _++_, map}
+use mathlib.Core.List.{List, [], _∷_, _++_, map, map-append}
 use Prim.Native.Nat.{ℕ, zero, suc, _+_, _*_, _/_, _≤_, _<_}
 use native.Mathlib.Omega.{arith}
 use lib.Dec.{T}
 use lib.IntN.{ℤ}
 use lib.ListN.{length}
 use lib.Ieee.{Float, binary64, sub, lt}
-use Rattle.float.specs.Magnitude.{Within, magnitudeOf}
+use Rattle.float.specs.Signs.{Within, magnitudeOf}
 use Rattle.float.proofs.Bounds.{sub-within}
 use Rattle.checks.specs.Outcome.{Outcome, refused, answered}
-use Rattle.checks.specs.Limits.{nought}
+use Rattle.float.specs.Numbers.{nought, largestFinite}
 use Rattle.orbit.specs.declared.fit.LeastSoFar.{LeastSoFar}
 use Rattle.orbit.specs.declared.fit.Report.{Report}
-use Rattle.orbit.specs.Closest.{largest}
 use Rattle.orbit.specs.Fitting.{Fitting}
 use Rattle.orbit.specs.Fit.{Trial, Best, noneYet, found, search, firstLeast, five, fifteen, tenth, twentieth, thousandth, hundredThousandth, shiftAt, shiftsFrom, around, coarse, fine, micro, further, report, reportOf, fitBy}
-use Rattle.orbit.specs.State.{stateOf, state, update, updates, stageFrom, reported, finished}
+use Rattle.orbit.specs.State.{stateOf, state, update, updates, stageFrom, reportFrom, finished}
 use Rattle.orbit.proofs.Shifts.{weaken, stage-within}
-use Rattle.orbit.proofs.Updates.{state-search, updates-append, map-append, Below, below-search, updates-within}
+use Rattle.orbit.proofs.Updates.{state-search, updates-append, Below, below-search, updates-within}
 use Rattle.orbit.proofs.FirstLeast.{still-found}
 use Rattle.orbit.proofs.Stages.{stageAfter, fit-by-stages}
 
@@ -45,27 +44,27 @@ module _ (try : Float → Trial) where
   found-stage : (f : Float → List Float) (t : Trial) → state (stageAfter try f (found t)) ≡ stageFrom try f (stateOf t)
   found-stage f t = sym (state-search (found t) (map try (f (t .shift))))
 
-  found-report : (n : ℕ) (t : Trial) (ts : List Trial) → reportOf n (search (found t) ts) ≡ answered (reported n (state (search (found t) ts)))
+  found-report : (n : ℕ) (t : Trial) (ts : List Trial) → reportOf n (search (found t) ts) ≡ answered (reportFrom n (state (search (found t) ts)))
   found-report n t ts = let r = still-found t ts in go (search (found t) ts) (r .0) (r .1)
     where
-      go : (b : Best) (u : Trial) → b ≡ found u → reportOf n b ≡ answered (reported n (state b))
+      go : (b : Best) (u : Trial) → b ≡ found u → reportOf n b ≡ answered (reportFrom n (state b))
       go b u e = rw e refl
 
-  both-stages : (n : ℕ) (t : Trial) → reportOf n (stageAfter try micro (stageAfter try fine (found t))) ≡ answered (reported n (stageFrom try micro (stageFrom try fine (stateOf t))))
+  both-stages : (n : ℕ) (t : Trial) → reportOf n (stageAfter try micro (stageAfter try fine (found t))) ≡ answered (reportFrom n (stageFrom try micro (stageFrom try fine (stateOf t))))
   both-stages n t = let r = still-found t (map try (fine (t .shift))) in go (stageAfter try fine (found t)) (r .0) (r .1) (found-stage fine t)
     where
-      go : (b : Best) (u : Trial) → b ≡ found u → state b ≡ stageFrom try fine (stateOf t) → reportOf n (stageAfter try micro b) ≡ answered (reported n (stageFrom try micro (stageFrom try fine (stateOf t))))
+      go : (b : Best) (u : Trial) → b ≡ found u → state b ≡ stageFrom try fine (stateOf t) → reportOf n (stageAfter try micro b) ≡ answered (reportFrom n (stageFrom try micro (stageFrom try fine (stateOf t))))
       go b u e s =
           ap (λ (x : Best). reportOf n (stageAfter try micro x)) e
           ∙ found-report n u (map try (micro (u .shift)))
-          ∙ ap (λ (x : LeastSoFar). answered (reported n x)) (found-stage micro u ∙ ap (stageFrom try micro) (sym (ap state e) ∙ s))
+          ∙ ap (λ (x : LeastSoFar). answered (reportFrom n x)) (found-stage micro u ∙ ap (stageFrom try micro) (sym (ap state e) ∙ s))
 
   finish-is : (n : ℕ) (b : Best) → Below b → reportOf n (stageAfter try micro (stageAfter try fine b)) ≡ finished try n (state b)
   unfolding lt search
   finish-is n noneYet h = refl
-  finish-is n (found t) h = both-stages n t ∙ go (lt (t .rmse) largest) h
+  finish-is n (found t) h = both-stages n t ∙ go (lt (t .rmse) largestFinite) h
     where
-      go : (v : Bool) → T v → answered (reported n (stageFrom try micro (stageFrom try fine (stateOf t)))) ≡ cond v (answered (reported n (stageFrom try micro (stageFrom try fine (stateOf t))))) (refused 10)
+      go : (v : Bool) → T v → answered (reportFrom n (stageFrom try micro (stageFrom try fine (stateOf t)))) ≡ cond v (answered (reportFrom n (stageFrom try micro (stageFrom try fine (stateOf t))))) (refused 10)
       go true h = refl
       go false h = absurd h
 

@@ -2,18 +2,18 @@
 -- usable place before it is above it; there is one such place at most. So the fit answers 10 exactly when no coarse shift is usable, and else reports that one place. Assumes nothing.
 use mathlib.Core.Path.{_≡_, refl, sym, _∙_, ap, subst}
 use mathlib.Core.Logic.{_≢_, _↔_}
-use mathlib.Core.Bool.{Bool, true, false, not, cond, _&&_, _||_, Bool·beq}
+use mathlib.Core.Bool.{Bool, true, false, not, cond, _&&_}
 use mathlib.Core.List.{List, [], _∷_, _++_, map, map-append}
-use Prim.Native.Nat.{ℕ, suc, _+_, _*_, _≤_, _<_}
+use Prim.Native.Nat.{ℕ, suc, _+_, _≤_, _<_}
 use native.Mathlib.Decide.{ℕ-discrete}
 use native.Mathlib.Omega.{arith}
 use lib.Dec.{T, T-not, not-T, eqb, eqb→eq, ltb, ltb→lt, nltb→le}
 use lib.ListN.{length, getD, length-map, List·getD-map}
-use lib.Ieee.{Float, nan, inf, fin, up, down, below, level, lt, eq, le}
+use lib.Ieee.{Float, nan, lt, le}
 use lib.Ieee.Fits.{and-l, and-r}
 use Rattle.float.proofs.Comparison.{number, at-least, lt-left, lt-asym, lt-past, lt-trans}
 use Rattle.checks.specs.Outcome.{refused, answered}
-use Rattle.orbit.specs.Closest.{largest}
+use Rattle.float.specs.Numbers.{largestFinite}
 use Rattle.orbit.specs.Fit.{Trial, usable, Best, noneYet, found, later, search, firstLeast, coarse, further, coarseFine, shifts, report, reportOf, fitBy}
 
 -- both parts of a test
@@ -25,43 +25,6 @@ and-both false b h k = h
 and-not : (a b : Bool) → T (not (a && b)) → T a → T (not b)
 and-not true b h k = h
 and-not false b h k = absurd k
-
--- ---- at least is not below
-
--- by the signs and the numbers above one bar
-level-not-below : (s t : Bool) (a b : ℕ) → T (level s a t b) → T (not (below t b s a))
-level-not-below s t a b h = go s t (eqb→eq a b (and-l (eqb a b) (Bool·beq s t || eqb a 0) h)) (and-r (eqb a b) (Bool·beq s t || eqb a 0) h)
-  where
-    not-less : (m n : ℕ) → n ≤ m → T (not (ltb m n))
-    not-less m n h = not-T (ltb m n) (λ l. omega (arith, ltb→lt m n l))
-
-    go : (s t : Bool) → a ≡ b → T (Bool·beq s t || eqb a 0) → T (not (below t b s a))
-    go false false e k = not-less b a (omega arith)
-    go false true e k = not-less 0 (b + a) (omega (arith, eqb→eq a 0 k))
-    go true false e k = tt
-    go true true e k = not-less a b (omega arith)
-
-eq-not-lt : (x y : Float) → T (eq x y) → T (not (lt y x))
-unfolding eq lt
-eq-not-lt nan y h = absurd h
-eq-not-lt (inf s) nan h = absurd h
-eq-not-lt (inf true) (inf true) h = tt
-eq-not-lt (inf true) (inf false) h = tt
-eq-not-lt (inf false) (inf true) h = h
-eq-not-lt (inf false) (inf false) h = tt
-eq-not-lt (inf s) (fin t n d) h = absurd h
-eq-not-lt (fin s m e) nan h = absurd h
-eq-not-lt (fin s m e) (inf t) h = absurd h
-eq-not-lt (fin s m e) (fin t n d) h = level-not-below s t (m * up e * down d) (n * up d * down e) h
-
--- what is at least x is not below it
-pub le-not-lt : (x y : Float) → T (le x y) → T (not (lt y x))
-unfolding le
-le-not-lt x y h = go (lt x y) (lt-asym x y) h
-  where
-    go : (v : Bool) → (T v → T (not (lt y x))) → T (v || eq x y) → T (not (lt y x))
-    go true f h = f tt
-    go false f h = eq-not-lt x y h
 
 -- ---- the winner
 
@@ -89,7 +52,7 @@ pub at-least-the-winner's : (at : ℕ → Trial) (n i j : ℕ) → Wins at n i �
 at-least-the-winner's at n i j w h ne u = at-least (at i .rmse) (at j .rmse) (number-of i (w .can-be-used)) (number-of j u) (w .least j h ne u)
   where
     number-of : (k : ℕ) → T (usable (at k)) → T (number (at k .rmse))
-    number-of k v = lt-left (at k .rmse) largest (and-r (at k .enough) (lt (at k .rmse) largest) v)
+    number-of k v = lt-left (at k .rmse) largestFinite (and-r (at k .enough) (lt (at k .rmse) largestFinite) v)
 
 -- ---- the search
 
@@ -119,8 +82,8 @@ module _ (at : ℕ → Trial) (n : ℕ) where
           let less : T (lt (at n .rmse) (at i .rmse)) = and-r (at n .enough) (lt (at n .rmse) (at i .rmse)) h in
           record {
             inside = omega arith;
-            can-be-used = and-both (at n .enough) (lt (at n .rmse) largest) (and-l (at n .enough) (lt (at n .rmse) (at i .rmse)) h)
-                (lt-trans (at n .rmse) (at i .rmse) largest less (and-r (at i .enough) (lt (at i .rmse) largest) (w .can-be-used)));
+            can-be-used = and-both (at n .enough) (lt (at n .rmse) largestFinite) (and-l (at n .enough) (lt (at n .rmse) (at i .rmse)) h)
+                (lt-trans (at n .rmse) (at i .rmse) largestFinite less (and-r (at i .enough) (lt (at i .rmse) largestFinite) (w .can-be-used)));
             least = λ j k ne u. lt-asym (at n .rmse) (at j .rmse) (beats less j (omega arith) u);
             first = λ j k u. beats less j k u;
           }
@@ -128,7 +91,7 @@ module _ (at : ℕ → Trial) (n : ℕ) where
           beats : T (lt (at n .rmse) (at i .rmse)) → (j : ℕ) → j < n → T (usable (at j)) → T (lt (at n .rmse) (at j .rmse))
           beats less j k u = elim (ℕ-discrete j i) [
             | yes e ↦ subst (λ (m : ℕ). T (lt (at n .rmse) (at m .rmse))) (sym e) less
-            | no ne ↦ lt-past (at n .rmse) (at i .rmse) (at j .rmse) less (lt-left (at j .rmse) largest (and-r (at j .enough) (lt (at j .rmse) largest) u)) (w .least j k ne u)
+            | no ne ↦ lt-past (at n .rmse) (at i .rmse) (at j .rmse) less (lt-left (at j .rmse) largestFinite (and-r (at j .enough) (lt (at j .rmse) largestFinite) u)) (w .least j k ne u)
           ]
 
       stays : T (not (at n .enough && lt (at n .rmse) (at i .rmse))) → Wins at (suc n) i
@@ -137,7 +100,7 @@ module _ (at : ℕ → Trial) (n : ℕ) where
             inside = omega (arith, w .inside);
             can-be-used = w .can-be-used;
             least = λ j k ne u. elim (ℕ-discrete j n) [
-              | yes e ↦ subst (λ (m : ℕ). T (not (lt (at m .rmse) (at i .rmse)))) (sym e) (and-not (at n .enough) (lt (at n .rmse) (at i .rmse)) h (and-l (at n .enough) (lt (at n .rmse) largest) (subst (λ (m : ℕ). T (usable (at m))) e u)))
+              | yes e ↦ subst (λ (m : ℕ). T (not (lt (at m .rmse) (at i .rmse)))) (sym e) (and-not (at n .enough) (lt (at n .rmse) (at i .rmse)) h (and-l (at n .enough) (lt (at n .rmse) largestFinite) (subst (λ (m : ℕ). T (usable (at m))) e u)))
               | no other ↦ w .least j (omega arith) ne u
             ];
             first = w .first;

@@ -15,9 +15,9 @@ use Rattle.samples.proofs.Seconds.{some-means, few-means}
 use Rattle.samples.proofs.OwnSeconds.{Limited, limited-means}
 use Rattle.samples.proofs.Recordings.{record-length, record-instants}
 use Rattle.checks.proofs.Passed.{Samples}
-use Rattle.checks.specs.Limits.{nought}
+use Rattle.float.specs.Numbers.{nought}
 use Rattle.orbit.specs.Fitting.{Sampled}
-use Rattle.orbit.specs.Pass.{approachOr, middleOf, measuredBy}
+use Rattle.orbit.specs.Passes.{approachOr, middleOf, measuredBy}
 
 pub measured-near : (ts : List ℤ) (fs : List Float) → ((k : ℕ) → natAbs (getD ts k (pos 0)) ≤ 4000000000000000000) → natAbs (measuredBy ts fs) ≤ 4000000000000000000
 measured-near ts fs h = go (lt (leastSlope noFloor ts fs .slope) nought)

@@ -8,14 +8,14 @@ use Prim.Native.Nat.{ℕ}
 use lib.IntN.{ℤ, pos, negsuc, pos-ne-negsuc}
 use lib.ListN.{length, getD, drop, replicate}
 use lib.Ieee.{Float, nan, fin, ofInt, lt, le}
-use Rattle.float.specs.Magnitude.{magnitudeOf}
+use Rattle.float.specs.Signs.{magnitudeOf}
 use Rattle.checks.specs.Checks.{any, unrising, anyMisplaced, infinite}
 use Rattle.checks.specs.Entries.{firstFailing}
 use Rattle.samples.specs.Means.{Sample, recording, bin, means, instants, Alike}
-use Rattle.checks.specs.Limits.{nought}
+use Rattle.float.specs.Numbers.{nought}
 use Rattle.orbit.specs.Window.{evenTolerance}
-use Rattle.orbit.specs.Fit.{Inputs}
-use Rattle.orbit.specs.Pass.{passRefusal, passInstants}
+use Rattle.orbit.specs.Residuals.{Inputs}
+use Rattle.orbit.specs.Passes.{passRefusal, passInstants}
 use Rattle.orbit.proofs.Demand3.{TwoCalls, two-calls}
 
 abbrev hertz : ℕ → Float

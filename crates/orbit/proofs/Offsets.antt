@@ -15,8 +15,8 @@ use Rattle.float.proofs.SignedBounds.{mag-add, mag-times, mag-natAbs}
 abbrev pub back : ℤ → ℤ
 back z = toZ w64 (ofZ w64 z)
 
-seconds-small : (z : ℤ) → natAbs z ≤ 10000 → mag (z *ℤ pos 1000000000) ≤ 10001000000000
-seconds-small z h =
+pub seconds-mag : (z : ℤ) → natAbs z ≤ 10000 → mag (z *ℤ pos 1000000000) ≤ 10001000000000
+seconds-mag z h =
     let m = mag-natAbs z 10000 h in
     le-trans (mag-times z 1000000000) (le-trans (mul-le-mul-right 1000000000 (more (mag z) m)) (omega arith))
   where
@@ -24,34 +24,30 @@ seconds-small z h =
     more m h = omega arith
 
 pub seconds-fit : (z : ℤ) → natAbs z ≤ 10000 → SFits w64 (z *ℤ pos 1000000000)
-seconds-fit z h = let s = seconds-small z h in record { sfits = omega arith }
+seconds-fit z h = let s = seconds-mag z h in record { sfits = omega arith }
 
 pub later-fits : (t z : ℤ) → natAbs t ≤ 4000000000000000000 → natAbs z ≤ 10000 → SFits w64 (t +ℤ z *ℤ pos 1000000000)
 later-fits t z h k =
-    let s = seconds-small z k in
+    let s = seconds-mag z k in
     let m = mag-natAbs t 4000000000000000000 h in
     let a = mag-add t (z *ℤ pos 1000000000) in
     record { sfits = omega arith }
 
+either-small : (b : Bool) (x y : ℤ) (m : ℕ) → natAbs x ≤ m → natAbs y ≤ m → natAbs (cond b x y) ≤ m
+either-small true x y m h k = h
+either-small false x y m h k = k
+
 -- an offset n seconds after the first
 pub offset-small : (first : ℤ) (n : ℕ) → natAbs (first +ℤ pos n) ≤ natAbs first + n
 offset-small (pos a) n = omega arith
-offset-small (negsuc a) n = by-cases (ltb n (suc a)) (negsuc (suc a - suc n)) (pos (n - suc a)) (suc a + n) (omega arith) (omega arith)
-  where
-    by-cases : (b : Bool) (x y : ℤ) (m : ℕ) → natAbs x ≤ m → natAbs y ≤ m → natAbs (cond b x y) ≤ m
-    by-cases true x y m h k = h
-    by-cases false x y m h k = k
+offset-small (negsuc a) n = either-small (ltb n (suc a)) (negsuc (suc a - suc n)) (pos (n - suc a)) (suc a + n) (omega arith) (omega arith)
 
 pub offset-fits : (first : ℤ) (n : ℕ) → natAbs first + n ≤ 10000 → SFits w64 (first +ℤ pos n)
 offset-fits first n h = let m = mag-natAbs (first +ℤ pos n) 10000 (le-trans (offset-small first n) h) in record { sfits = omega arith }
 
 -- sixty seconds before a centre
 pub before-small : (centre : ℤ) (n : ℕ) → natAbs centre ≤ n → natAbs (centre +ℤ negsuc 59) ≤ n + 60
-before-small (pos a) n h = by-cases (ltb a 60) (negsuc (60 - suc a)) (pos (a - 60)) (n + 60) (omega arith) (omega arith)
-  where
-    by-cases : (b : Bool) (x y : ℤ) (m : ℕ) → natAbs x ≤ m → natAbs y ≤ m → natAbs (cond b x y) ≤ m
-    by-cases true x y m h k = h
-    by-cases false x y m h k = k
+before-small (pos a) n h = either-small (ltb a 60) (negsuc (60 - suc a)) (pos (a - 60)) (n + 60) (omega arith) (omega arith)
 before-small (negsuc a) n h = omega arith
 
 pub small-fits : (z : ℤ) → natAbs z ≤ 10000 → SFits w64 z

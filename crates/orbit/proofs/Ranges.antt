@@ -15,7 +15,8 @@ use Rattle.orbit.specs.declared.closest.Nearest.{Nearest}
 use Rattle.orbit.specs.declared.propagation.Propagation.{Propagation}
 use Rattle.orbit.specs.declared.propagation.Propagation.the-variants.{At, Refused}
 use Rattle.orbit.specs.Propagation.{Motion, motionIn, propagated}
-use Rattle.orbit.specs.Closest.{largest, squaredRange, later, nearer, seekNearest, byMinutes, bySeconds}
+use Rattle.orbit.specs.Closest.{squaredRange, movedBySeconds, nearer, seekNearest, byMinutes, bySeconds}
+use Rattle.float.specs.Numbers.{largestFinite}
 use Rattle.orbit.proofs.Offsets.{offset-small, before-small}
 
 pub nearer-refused : (o : Observer) (r : Propagation) (q : Outcome Motion) (n : ℕ) (offset : ℤ) (best : Nearest) → motionIn r ≡ q → r ≡ Refused n → best ≡ nearer o q offset best
@@ -39,7 +40,7 @@ nearer-lost o r q p v offset best range e er ee w =
 
 module _ (tolerance : Float) (instants : List ℤ) (positions : List Float) (o : Observer) (around : ℤ) where
   pub seek-step : (n k : ℕ) (first : ℤ) (step : ℕ) (best : Nearest) → k < n
-      → seekNearest tolerance instants positions o around (n - (k + 1)) (k + 1) first step (nearer o (propagated tolerance instants positions (later around (first +ℤ pos (step * k)))) (first +ℤ pos (step * k)) best)
+      → seekNearest tolerance instants positions o around (n - (k + 1)) (k + 1) first step (nearer o (propagated tolerance instants positions (movedBySeconds around (first +ℤ pos (step * k)))) (first +ℤ pos (step * k)) best)
       ≡ seekNearest tolerance instants positions o around (n - k) k first step best
   unfolding seekNearest
   seek-step n k first step best h =
@@ -69,16 +70,16 @@ module _ (tolerance : Float) (instants : List ℤ) (positions : List Float) (o :
       let offset = first +ℤ pos (step * k) in
       let a : step * k ≤ step * (k + suc n) = mul-le-mul-left step (omega arith) in
       let e : k + 1 + n ≡ k + suc n = omega arith in
-      seek-small n (k + 1) first step (nearer o (propagated tolerance instants positions (later around offset)) offset best) m
-      (nearer-small (propagated tolerance instants positions (later around offset)) offset best m (le-trans (offset-small first (step * k)) (omega arith)) h)
+      seek-small n (k + 1) first step (nearer o (propagated tolerance instants positions (movedBySeconds around offset)) offset best) m
+      (nearer-small (propagated tolerance instants positions (movedBySeconds around offset)) offset best m (le-trans (offset-small first (step * k)) (omega arith)) h)
       (subst (λ (x : ℕ). natAbs first + step * x ≤ m) (sym e) l)
 
   -- the offsets of the two stages are at most 10,000 s
   pub minutes-small : natAbs (byMinutes tolerance instants positions o around .offset) ≤ 9060
-  minutes-small = seek-small 101 0 (negsuc 2999) 60 (record { range = largest; offset = pos 0 }) 9060 (omega arith) (omega arith)
+  minutes-small = seek-small 101 0 (negsuc 2999) 60 (record { range = largestFinite; offset = pos 0 }) 9060 (omega arith) (omega arith)
 
   pub seconds-small : natAbs (bySeconds tolerance instants positions o around .offset) ≤ 10000
   seconds-small =
       let centre = byMinutes tolerance instants positions o around .offset in
       let f = before-small centre 9060 minutes-small in
-      seek-small 121 0 (centre +ℤ negsuc 59) 1 (record { range = largest; offset = centre }) 10000 (le-trans minutes-small (omega arith)) (omega (arith, f))
+      seek-small 121 0 (centre +ℤ negsuc 59) 1 (record { range = largestFinite; offset = centre }) 10000 (le-trans minutes-small (omega arith)) (omega (arith, f))

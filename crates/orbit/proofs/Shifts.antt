@@ -8,11 +8,12 @@ use lib.Signed.{mag}
 use lib.Ieee.{Float, nan, inf, fin, down, binary64, add, sub, mul}
 use mir.Syntax.{w64}
 use mir.Val.{SFits}
-use Rattle.float.specs.Magnitude.{Within}
+use Rattle.float.specs.Signs.{Within}
 use Rattle.float.proofs.SignedBounds.{mag-minus, mag-times, mag-natAbs}
 use Rattle.float.specs.Conversions.{nearestOf}
 use Rattle.float.proofs.Bounds.{add-within, sub-within, mul-within, nearest-within, truncated-within}
-use Rattle.orbit.specs.Fit.{million, microseconds, shiftAt}
+use Rattle.orbit.specs.Fit.{shiftAt}
+use Rattle.orbit.specs.Residuals.{million, microseconds}
 
 million-within : Within 1000000 million
 million-within = omega arith

@@ -11,9 +11,8 @@ use lib.IntN.{pos}
 use lib.ListN.{length, getD, length-append}
 use lib.Ieee.{Float, nan, fin, binary64, sub, lt}
 use lib.Ieee.Fits.{and-r}
-use Rattle.float.specs.Magnitude.{magnitudeOf}
-use Rattle.checks.specs.Limits.{nought}
-use Rattle.orbit.specs.Closest.{largest}
+use Rattle.float.specs.Signs.{magnitudeOf}
+use Rattle.float.specs.Numbers.{nought, largestFinite}
 use Rattle.orbit.specs.Fit.{Trial, Best, noneYet, found, later, search, firstLeast, five, fifteen, tenth, twentieth, thousandth, hundredThousandth, shiftAt, shiftsFrom, around, coarse, fine, micro, further, coarseFine, shifts, reportOf, fitBy}
 use Rattle.orbit.proofs.FirstLeast.{Wins, After, place, first-least, none-found, next-stage, still-found, NoCoarse}
 

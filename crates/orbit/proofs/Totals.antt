@@ -9,7 +9,7 @@ use lib.ListN.{length, getD, take, drop, set, drop-of-length-le}
 use lib.Seq.{drop-cons, take-suc-set}
 use lib.Ieee.{Float, nan, binary64, add}
 use Rattle.samples.specs.Means.{Sample, recording}
-use Rattle.orbit.specs.Fit.{Residual, nothing, left, keep, residuals, total}
+use Rattle.orbit.specs.Residuals.{Residual, nothing, left, keep, residuals, total}
 
 -- ---- sums
 

@@ -14,7 +14,9 @@ use Rattle.float.specs.Root.{root}
 use Rattle.float.specs.Conversions.{nearestOf}
 use Rattle.samples.specs.Means.{Sample}
 use Rattle.orbit.specs.declared.fit.LeastSoFar.{LeastSoFar}
-use Rattle.orbit.specs.Fit.{Residual, residuals, total, minusZero, meanOver, deviation, Trial, trial}
+use Rattle.orbit.specs.Fit.{Trial, trial}
+use Rattle.orbit.specs.Residuals.{Residual, residuals, total, meanOver, deviation}
+use Rattle.float.specs.Numbers.{minusZero}
 use Rattle.orbit.specs.State.{stateOf, update}
 
 -- the mean of the first n values, from their sum

@@ -6,10 +6,10 @@ use Prim.Native.Nat.{ℕ, zero, suc, _+_, _-_, _≤_, _<_}
 use native.Mathlib.Omega.{arith}
 use lib.Dec.{T}
 use lib.Ieee.{Float, lt}
-use Rattle.float.specs.Magnitude.{Within}
+use Rattle.float.specs.Signs.{Within}
 use Rattle.float.proofs.Comparison.{lt-trans}
 use Rattle.orbit.specs.declared.fit.LeastSoFar.{LeastSoFar}
-use Rattle.orbit.specs.Closest.{largest}
+use Rattle.float.specs.Numbers.{largestFinite}
 use Rattle.orbit.specs.Fit.{Trial, Best, noneYet, found, later, search, shiftAt, shiftsFrom}
 use Rattle.orbit.specs.State.{stateOf, state, update, updates}
 
@@ -30,7 +30,7 @@ module _ (try : Float → Trial) where
 -- ---- the three doubles are the search's best
 
 state-later : (b : Best) (t : Trial) → state (later b t) ≡ update (state b) t
-state-later noneYet t = go (t .enough && lt (t .rmse) largest)
+state-later noneYet t = go (t .enough && lt (t .rmse) largestFinite)
   where
     go : (v : Bool) → state (cond v (found t) noneYet) ≡ cond v (stateOf t) (state noneYet)
     go true = refl
@@ -51,26 +51,22 @@ unfolding updates
 updates-append s [] us = refl
 updates-append s (t ∷ ts) us = updates-append (update s t) ts us
 
-pub map-append : (f : Float → Trial) (s t : List Float) → map f (s ++ t) ≡ map f s ++ map f t
-map-append f [] t = refl
-map-append f (x ∷ xs) t = ap {B = List Trial} (λ r. f x ∷ r) (map-append f xs t)
-
 -- what is found has an RMSE below the largest finite double
 abbrev pub Below : Best → Type 0
 Below noneYet = Unit {0}
-Below (found t) = T (lt (t .rmse) largest)
+Below (found t) = T (lt (t .rmse) largestFinite)
 
 below-later : (b : Best) (t : Trial) → Below b → Below (later b t)
-below-later noneYet t h = go (t .enough) (lt (t .rmse) largest) (λ u. u)
+below-later noneYet t h = go (t .enough) (lt (t .rmse) largestFinite) (λ u. u)
   where
-    go : (v w : Bool) → (T w → T (lt (t .rmse) largest)) → Below (cond (v && w) (found t) noneYet)
+    go : (v w : Bool) → (T w → T (lt (t .rmse) largestFinite)) → Below (cond (v && w) (found t) noneYet)
     go true true f = f tt
     go true false f = tt
     go false w f = tt
 below-later (found u) t h = go (t .enough) (lt (t .rmse) (u .rmse)) (λ k. k)
   where
     go : (v w : Bool) → (T w → T (lt (t .rmse) (u .rmse))) → Below (cond (v && w) (found t) (found u))
-    go true true f = lt-trans (t .rmse) (u .rmse) largest (f tt) h
+    go true true f = lt-trans (t .rmse) (u .rmse) largestFinite (f tt) h
     go true false f = h
     go false w f = h
 

@@ -2,21 +2,19 @@
 use Prim.Native.Nat.{ℕ, zero, suc, _+_, _*_}
 use mathlib.Core.Bool.{Bool, true, false, cond}
 use mathlib.Core.List.{List}
-use lib.IntN.{ℤ, pos, negsuc, _+ℤ_, _*ℤ_}
-use lib.Ieee.{Float, fin, binary64, add, sub, mul, lt}
+use lib.IntN.{ℤ, pos, negℤ, _+ℤ_, _*ℤ_}
+use lib.Ieee.{Float, binary64, add, sub, mul, lt}
+use Rattle.float.specs.Numbers.{largestFinite}
 use Rattle.units.specs.declared.Position.{Position}
 use Rattle.units.specs.declared.Observer.{Observer}
 use Rattle.checks.specs.Outcome.{Outcome, refused, answered, outcome}
 use Rattle.checks.specs.Entries.{firstFailing, closestChecks}
+use Rattle.samples.specs.Means.{second}
 use Rattle.orbit.specs.declared.closest.Nearest.{Nearest}
 use Rattle.orbit.specs.declared.closest.ClosestApproach.{ClosestApproach}
 use Rattle.orbit.specs.declared.closest.ClosestApproach.the-variants.{At, Refused}
 use Rattle.orbit.specs.Window.{evenTolerance}
 use Rattle.orbit.specs.Propagation.{Motion, propagated}
-
--- the largest finite double: "only squared ranges below" it count
-abbrev pub largest : Float
-largest = fin false 9007199254740991 (pos 971)
 
 -- the squared distance from the observer, in square metres
 abbrev pub squared : Float → Float
@@ -27,13 +25,26 @@ squaredRange o p =
     add binary64 (add binary64 (squared (sub binary64 (p .x) (o .x .0))) (squared (sub binary64 (p .y) (o .y .0)))) (squared (sub binary64 (p .z) (o .z .0)))
 
 -- an instant moved by whole seconds
-abbrev pub later : ℤ → ℤ → ℤ
-later t offset = t +ℤ offset *ℤ pos 1000000000
+abbrev pub movedBySeconds : ℤ → ℤ → ℤ
+movedBySeconds t offset = t +ℤ offset *ℤ pos second
 
 -- "first of equals": a later offset wins only by a smaller squared range; an instant without a position is passed over
 abbrev pub nearer : Observer → Outcome Motion → ℤ → Nearest → Nearest
 nearer o (refused n) offset best = best
 nearer o (answered m) offset best = let r = squaredRange o (m .position) in cond (lt r (best .range)) (record { range = r; offset = offset }) best
+
+-- a minute, and −50 minutes, in seconds; as many steps as from −50 to 50 minutes, and from −60 to 60 s
+abbrev pub minute : ℕ
+minute = 60
+
+abbrev pub firstMinute : ℤ
+firstMinute = negℤ (pos 3000)
+
+abbrev pub minuteSteps : ℕ
+minuteSteps = 101
+
+abbrev pub secondSteps : ℕ
+secondSteps = 121
 
 module _ (tolerance : Float) (instants : List ℤ) (positions : List Float) (o : Observer) (around : ℤ) where
   -- the first nearest of best and n offsets from the k-th on; the k-th is k steps after the first
@@ -41,18 +52,18 @@ module _ (tolerance : Float) (instants : List ℤ) (positions : List Float) (o :
   seekNearest zero k first step best = best
   seekNearest (suc n) k first step best =
       let offset = first +ℤ pos (step * k) in
-      seekNearest n (k + 1) first step (nearer o (propagated tolerance instants positions (later around offset)) offset best)
+      seekNearest n (k + 1) first step (nearer o (propagated tolerance instants positions (movedBySeconds around offset)) offset best)
 
-  -- "over −50 to 50 minutes by minutes"; "a stage without one keeps its centre, which at first is the given instant"
+  -- "over −50 to 50 minutes by minutes"; "only squared ranges below the largest finite double count"; "a stage without one keeps its centre, which at first is the given instant"
   abbrev pub byMinutes : Nearest
-  byMinutes = seekNearest 101 0 (negsuc 2999) 60 (record { range = largest; offset = pos 0 })
+  byMinutes = seekNearest minuteSteps 0 firstMinute minute (record { range = largestFinite; offset = pos 0 })
 
   -- "then ±60 s by seconds"
   abbrev pub bySeconds : Nearest
-  bySeconds = let centre = byMinutes .offset in seekNearest 121 0 (centre +ℤ negsuc 59) 1 (record { range = largest; offset = centre })
+  bySeconds = let centre = byMinutes .offset in seekNearest secondSteps 0 (centre +ℤ negℤ (pos minute)) 1 (record { range = largestFinite; offset = centre })
 
   abbrev pub closestInstant : ℤ
-  closestInstant = later around (bySeconds .offset)
+  closestInstant = movedBySeconds around (bySeconds .offset)
 
 -- ---- the entry: checks 1, 4, 5, 6, never 8
 

@@ -3,107 +3,22 @@ use Prim.Native.Nat.{ℕ, zero, suc, _+_, _/_}
 use mathlib.Core.Bool.{Bool, true, false, cond, _&&_}
 use mathlib.Core.List.{List, [], _∷_, _++_, map}
 use lib.Dec.{ltb}
-use lib.IntN.{ℤ, pos, negsuc, _-ℤ_, _*ℤ_}
+use lib.IntN.{ℤ, pos, negsuc}
 use lib.ListN.{length}
-use lib.Ieee.{Float, fin, binary64, add, sub, mul, div, lt}
+use lib.Ieee.{Float, fin, binary64, add, sub, mul, lt}
+use Rattle.float.specs.Numbers.{nought, largestFinite}
 use Rattle.float.specs.Root.{root}
-use Rattle.float.specs.Conversions.{nearestOf, truncatedOf}
-use Rattle.float.specs.Magnitude.{magnitudeOf}
-use Rattle.units.specs.declared.Position.{Position}
-use Rattle.units.specs.declared.Velocity.{Velocity}
-use Rattle.units.specs.declared.Observer.{Observer}
+use Rattle.float.specs.Conversions.{nearestOf}
+use Rattle.float.specs.Signs.{magnitudeOf}
 use Rattle.checks.specs.Outcome.{Outcome, refused, answered, unlessRefused}
 use Rattle.checks.specs.Entries.{firstFailing, fitChecks}
 use Rattle.samples.specs.Means.{Sample, recording}
 use Rattle.samples.specs.Approach.{gapOf}
-use Rattle.samples.specs.Slant.{lightSpeed}
-use Rattle.checks.specs.Limits.{nought}
 use Rattle.orbit.specs.declared.fit.Report.{Report}
 use Rattle.orbit.specs.declared.fit.Fitted.{Fitted}
 use Rattle.orbit.specs.declared.fit.Fitted.the-variants.{Fit, Refused}
-use Rattle.orbit.specs.Window.{one, evenTolerance}
-use Rattle.orbit.specs.Propagation.{Motion, propagated}
-use Rattle.orbit.specs.Closest.{largest, squaredRange, closestInstant}
-
--- "its other inputs are coordinate instants and positions, observer and centre frequency"; the tolerance of an even window with them
-pub record Inputs : Type 0 where
-  pub tolerance : Float
-  pub instants : List ℤ
-  pub positions : List Float
-  pub observer : Observer
-  pub f0 : Float
-
-abbrev pub inputsOf : Float → List ℤ → List Float → Observer → Float → Inputs
-inputsOf tolerance instants positions observer f0 = record { tolerance = tolerance; instants = instants; positions = positions; observer = observer; f0 = f0 }
-
--- ---- a sample under a shift
-
--- 1e6
-abbrev pub million : Float
-million = fin false 15625 (pos 6)
-
--- a shift "in whole microseconds", toward zero
-abbrev pub microseconds : Float → ℤ
-microseconds shift = truncatedOf (mul binary64 shift million)
-
--- "A candidate moves each sample earlier by its shift in whole microseconds"
-abbrev pub moved : ℤ → Float → ℤ
-moved t shift = t -ℤ microseconds shift *ℤ pos 1000
-
--- how fast the range grows, in metres for each second; a zero range makes a NaN
-abbrev pub rangeRate : Observer → Motion → Float
-rangeRate o m =
-    let p = m .position in
-    let v = m .velocity in
-    div binary64
-    (add binary64 (add binary64 (mul binary64 (sub binary64 (p .x) (o .x .0)) (v .x)) (mul binary64 (sub binary64 (p .y) (o .y .0)) (v .y))) (mul binary64 (sub binary64 (p .z) (o .z .0)) (v .z)))
-    (root binary64 (squaredRange o p))
-
--- what the measured frequency has over the one that the centre frequency becomes at that rate
-abbrev pub residualAt : Observer → Float → Float → Motion → Float
-residualAt o f0 frequency m = sub binary64 frequency (mul binary64 f0 (sub binary64 one (div binary64 (rangeRate o m) lightSpeed)))
-
--- "samples without a position are skipped"
-pub data Residual : Type 0 where
-  nothing : Residual
-  left : Float → Residual
-
-abbrev pub residualIn : Observer → Float → Float → Outcome Motion → Residual
-residualIn o f0 frequency (refused n) = nothing
-residualIn o f0 frequency (answered m) = left (residualAt o f0 frequency m)
-
-abbrev pub residualOf : Inputs → Float → Sample → Residual
-residualOf i shift x = residualIn (i .observer) (i .f0) (x .frequency) (propagated (i .tolerance) (i .instants) (i .positions) (moved (x .instant) shift))
-
--- ---- the trial of a shift
-
-abbrev pub keep : Residual → List Float → List Float
-keep nothing ys = ys
-keep (left y) ys = y ∷ ys
-
--- the residuals that are left, in order
-unfoldable pub residuals : (Sample → Residual) → List Sample → List Float
-residuals f [] = []
-residuals f (x ∷ xs) = keep (f x) (residuals f xs)
-
--- the sum in order, onto a
-unfoldable pub total : Float → List Float → Float
-unfolding add
-total a [] = a
-total a (y ∷ ys) = total (add binary64 a y) ys
-
--- "These two sums start at −0.0, as Rust's `sum` does"
-abbrev pub minusZero : Float
-minusZero = fin true 0 (pos 0)
-
-unfoldable pub meanOver : List Float → Float
-unfolding total div
-meanOver ys = div binary64 (total minusZero ys) (nearestOf (pos (length ys)))
-
--- (y − mean) × (y − mean)
-unfoldable pub deviation : Float → Float → Float
-unfolding sub mul
-deviation mean y = mul binary64 (sub binary64 y mean) (sub binary64 y mean)
+use Rattle.orbit.specs.Closest.{closestInstant}
+use Rattle.orbit.specs.Residuals.{Inputs, Residual, residualOf, residuals, meanOver, deviation}
 
 -- a shift with its frequency offset and RMSE, and whether enough samples are left
 pub record Trial : Type 0 where
@@ -122,7 +37,7 @@ trial residual S shift =
 
 -- "Usable: more than half the samples left and an RMSE below the largest finite double"
 abbrev pub usable : Trial → Bool
-usable t = t .enough && lt (t .rmse) largest
+usable t = t .enough && lt (t .rmse) largestFinite
 
 -- ---- the first least
 
@@ -131,7 +46,7 @@ pub data Best : Type 0 where
   found : Trial → Best
 
 abbrev pub rmseOf : Best → Float
-rmseOf noneYet = largest
+rmseOf noneYet = largestFinite
 rmseOf (found t) = t .rmse
 
 -- "A later candidate wins only by a smaller RMSE"
@@ -214,8 +129,11 @@ module _ (try : Float → Trial) (centre : Float) where
 -- ---- the outcome
 
 -- three doubles and a count: made here alone
+abbrev pub reported : ℕ → Float → Float → Float → Report
+reported n shift offset rmse = record { clock = record { 0 = shift }; frequency = record { 0 = offset }; rmse = record { 0 = rmse }; count = n }
+
 abbrev pub report : ℕ → Trial → Report
-report n t = record { clock = record { 0 = t .shift }; frequency = record { 0 = t .offset }; rmse = record { 0 = t .rmse }; count = n }
+report n t = reported n (t .shift) (t .offset) (t .rmse)
 
 -- "No coarse candidate is usable"
 abbrev pub reportOf : ℕ → Best → Outcome Report

@@ -8,6 +8,26 @@ use lib.Ieee.{Float}
 use Rattle.checks.specs.Limits.{mostSamples, farthestInstant}
 use Rattle.orbit.specs.Table.{Table}
 
+-- How far the search goes, each a bound that fits its machine number: an offset by whole seconds; the centre of the shifts, the best coarse
+-- shift, the start of a stage and any shift, in seconds; a shift in microseconds.
+abbrev pub farthestOffset : ℕ
+farthestOffset = 10000
+
+abbrev pub farthestCentre : ℕ
+farthestCentre = 10001
+
+abbrev pub farthestBest : ℕ
+farthestBest = 10400
+
+abbrev pub farthestStart : ℕ
+farthestStart = 12000
+
+abbrev pub farthestShift : ℕ
+farthestShift = 20000
+
+abbrev pub farthestMicros : ℕ
+farthestMicros = 20000000000
+
 pub record Fitting (instants : List ℤ) (positions : List Float) (samples : List ℤ) (frequencies values : List Float) : Type 0 where
   pub table : Table instants positions
   pub same : length frequencies ≡ length samples

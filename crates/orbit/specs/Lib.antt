@@ -4,6 +4,7 @@ pub mod Window
 pub mod Propagation
 pub mod Closest
 pub mod Fitting
+pub mod Residuals
 pub mod Fit
-pub mod Pass
+pub mod Passes
 pub mod State

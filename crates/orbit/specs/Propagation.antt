@@ -11,7 +11,8 @@ use Rattle.checks.specs.Entries.{firstFailing, evaluationChecks, propagationChe
 use Rattle.orbit.specs.declared.window.ChebyshevOrbit.{ChebyshevOrbit}
 use Rattle.orbit.specs.declared.propagation.Propagation.{Propagation}
 use Rattle.orbit.specs.declared.propagation.Propagation.the-variants.{At, Refused}
-use Rattle.orbit.specs.Window.{two, secondsOf, tauOf, evenTolerance, modelAbout}
+use Rattle.orbit.specs.Window.{secondsOf, tauOf, evenTolerance, modelAbout}
+use Rattle.float.specs.Numbers.{two}
 
 -- where a satellite is and how it moves
 pub record Motion : Type 0 where

@@ -8,18 +8,19 @@ use lib.IntN.{ℤ, pos, negsuc}
 use lib.Signed.{leZ}
 use lib.ListN.{length, getD, replicate}
 use lib.Ieee.{Float, nan, fin, binary64, sub, mul, div, lt}
+use Rattle.float.specs.Numbers.{nought, one, two, nine}
 use Rattle.float.specs.Conversions.{nearestOf}
-use Rattle.float.specs.Magnitude.{magnitudeOf}
+use Rattle.float.specs.Signs.{magnitudeOf}
 use Rattle.chebyshev.specs.Lists.{listOf}
 use Rattle.chebyshev.specs.Recurrence.{rounded, polynomials, terms}
-use Rattle.chebyshev.specs.Inverse.{Row, Matrix, inverted, rowsOf}
+use Rattle.chebyshev.specs.Inverse.{Row, Matrix, inverted, singularRefusal}
 use Rattle.chebyshev.specs.Inverse.{Outcome as Inversion, singular, inverse}
 use Rattle.chebyshev.specs.Ideal.{idealMatrix}
 use Rattle.chebyshev.specs.Coefficients.{coefficientsBy}
 use Rattle.units.specs.declared.Seconds.{Seconds}
 use Rattle.checks.specs.Outcome.{Outcome, refused, answered, unlessRefused}
 use Rattle.checks.specs.Entries.{firstFailing, propagationChecks}
-use Rattle.checks.specs.Limits.{axes, nought}
+use Rattle.checks.specs.Limits.{axes}
 use Rattle.orbit.specs.declared.window.ChebyshevOrbit.{ChebyshevOrbit}
 use Rattle.orbit.specs.declared.window.Model.{Model}
 
@@ -38,18 +39,9 @@ startOf idx n = cond (ltb idx 4) 0 (cond (leb n (idx + 5)) (n - terms) (idx - 4)
 abbrev pub windowStart : List ℤ → ℤ → ℕ
 windowStart instants t = startOf (lastBefore instants t) (length instants)
 
--- 1e-9, and 1.0, 2.0 and 9.0
+-- 1e-9
 abbrev pub nanosecond : Float
 nanosecond = fin false 4835703278458517 (negsuc 81)
-
-abbrev pub one : Float
-one = fin false 1 (pos 0)
-
-abbrev pub two : Float
-two = fin false 1 (pos 1)
-
-abbrev pub nine : Float
-nine = fin false 9 (pos 0)
 
 -- the tolerance of an even window in seconds, 1.0
 abbrev pub evenTolerance : Float
@@ -110,7 +102,7 @@ modelBy inv t positions start = record {
 
 -- an inversion that is refused by 8, or the model by it
 abbrev pub modelOr : Inversion → List Float → List Float → ℕ → Outcome ChebyshevOrbit
-modelOr singular t positions start = refused 8
+modelOr singular t positions start = refused singularRefusal
 modelOr (inverse v) t positions start = answered (modelBy v t positions start)
 
 -- "then ideal nodes −1 + 2k/9 are used": of an even window the ideal matrix is inverted, else that of its own nodes

@@ -4,8 +4,9 @@ ghost use Prim.Native.Nat.{_+_, _*_, _≤_};
 ghost use lib.IntN.{ℤ, pos, natAbs, _+ℤ_};
 ghost use Rattle.checks.specs.Limits.{farthestInstant};
 ghost use Rattle.orbit.specs.Table.{Table};
+ghost use Rattle.orbit.specs.Fitting.{farthestOffset};
 ghost use Rattle.orbit.specs.Propagation.{propagated};
-ghost use Rattle.orbit.specs.Closest.{squaredRange, later, nearer, seekNearest, closestInstant, closestApproach, closestIn};
+ghost use Rattle.orbit.specs.Closest.{squaredRange, movedBySeconds, nearer, seekNearest, closestInstant, closestApproach, closestIn};
 use crate::propagation::Propagation;
 use crate::propagation::propagate_at;
 use checks::refuse_closest;
@@ -37,15 +38,15 @@ fn squared_range(p: Position, o: Observer) -> f64
 
 // An instant moved by whole seconds.
 fn moved_by_seconds(t: i64, offset: i64) -> i64
-    requires { ⌜ (natAbs t ≤ farthestInstant) × (natAbs offset ≤ 10000) ⌝ }
-    ensures { λ r. ⌜ r ≡ later t offset ⌝ }
+    requires { ⌜ (natAbs t ≤ farthestInstant) × (natAbs offset ≤ farthestOffset) ⌝ }
+    ensures { λ r. ⌜ r ≡ movedBySeconds t offset ⌝ }
 {
     t + offset * 1000000000
 }
 
 // The offset k steps after the first, in seconds.
 fn offset_of(first: i64, step: u64, k: u64) -> i64
-    requires { ⌜ natAbs first + step * k ≤ 10000 ⌝ }
+    requires { ⌜ natAbs first + step * k ≤ farthestOffset ⌝ }
     ensures { λ r. ⌜ r ≡ first +ℤ pos (step * k) ⌝ }
 {
     first + ((step * k) as i64)
@@ -61,8 +62,8 @@ fn nearer_at(
     tolerance: f64,
     best: Nearest,
 ) -> Nearest
-    requires { ⌜ Table (now instants) (now positions) × (natAbs around ≤ farthestInstant) × (natAbs offset ≤ 10000) ⌝ }
-    ensures { λ r. ⌜ r ≡ nearer observer (propagated tolerance (now (instants .entry)) (now (positions .entry)) (later around offset)) offset best ⌝ }
+    requires { ⌜ Table (now instants) (now positions) × (natAbs around ≤ farthestInstant) × (natAbs offset ≤ farthestOffset) ⌝ }
+    ensures { λ r. ⌜ r ≡ nearer observer (propagated tolerance (now (instants .entry)) (now (positions .entry)) (movedBySeconds around offset)) offset best ⌝ }
 {
     let t = moved_by_seconds(around, offset);
     let Propagation::At(p, _) = propagate_at(instants, positions, t, tolerance) else {
@@ -87,7 +88,7 @@ fn seek_nearest(
     tolerance: f64,
     start: Nearest,
 ) -> Nearest
-    requires { ⌜ Table (now instants) (now positions) × (natAbs around ≤ farthestInstant) × (natAbs first + step * count ≤ 10000) ⌝ }
+    requires { ⌜ Table (now instants) (now positions) × (natAbs around ≤ farthestInstant) × (natAbs first + step * count ≤ farthestOffset) ⌝ }
     ensures { λ r. ⌜ r ≡ seekNearest tolerance (now (instants .entry)) (now (positions .entry)) observer around count 0 first step start ⌝ }
 {
     let mut best = start;

@@ -4,14 +4,15 @@ ghost use mathlib.Core.List.{map};
 ghost use Prim.Native.Nat.{ℕ, _<_, _≤_};
 ghost use lib.IntN.{pos, natAbs};
 ghost use lib.ListN.{length, getD};
-ghost use Rattle.float.specs.Magnitude.{Within};
+ghost use Rattle.float.specs.Signs.{Within};
 ghost use Rattle.checks.specs.Limits.{mostSamples, farthestInstant};
 ghost use Rattle.samples.specs.Means.{recording};
-ghost use Rattle.samples.specs.Approach.{gapOf};
+ghost use Rattle.samples.specs.Approach.{gapOf, farthestMoved};
 ghost use Rattle.orbit.specs.Table.{Table};
-ghost use Rattle.orbit.specs.Fitting.{Fitting};
+ghost use Rattle.orbit.specs.Fitting.{Fitting, farthestCentre, farthestBest, farthestStart, farthestShift};
 ghost use Rattle.orbit.specs.Window.{evenTolerance};
-ghost use Rattle.orbit.specs.Fit.{inputsOf, residualOf, trial, shiftAt, shiftsFrom, coarse, noneYet, fitted, satelliteFit, fitIn};
+ghost use Rattle.orbit.specs.Fit.{trial, shiftAt, shiftsFrom, coarse, noneYet, fitted, satelliteFit, fitIn};
+ghost use Rattle.orbit.specs.Residuals.{inputsOf, residualOf};
 ghost use Rattle.orbit.specs.State.{update, updates, state, finished};
 use crate::closest::closest_at;
 use crate::residuals::collect_residuals;
@@ -60,7 +61,7 @@ fn try_shift(
     values: &mut [f64],
     best: LeastSoFar,
 ) -> LeastSoFar
-    requires { ⌜ Table (now instants) (now positions) × (length (now frequencies) ≡ length (now samples)) × (length (now samples) ≤ length (now values)) × ((k : ℕ) → natAbs (getD (now samples) k (pos 0)) ≤ farthestInstant) × Within 20000 shift × (length (now samples) ≤ mostSamples) ⌝ }
+    requires { ⌜ Table (now instants) (now positions) × (length (now frequencies) ≡ length (now samples)) × (length (now samples) ≤ length (now values)) × ((k : ℕ) → natAbs (getD (now samples) k (pos 0)) ≤ farthestInstant) × Within farthestShift shift × (length (now samples) ≤ mostSamples) ⌝ }
     ensures { λ r. ⌜ r ≡ update best (trial (residualOf (inputsOf tolerance (now (instants .entry)) (now (positions .entry)) observer f0)) (recording (now (samples .entry)) (now (frequencies .entry))) shift) ⌝ }
 {
     let count = collect_residuals(
@@ -113,7 +114,7 @@ fn run_stage(
     values: &mut [f64],
     best: LeastSoFar,
 ) -> LeastSoFar
-    requires { ⌜ Fitting (now instants) (now positions) (now samples) (now frequencies) (now values) × Within 12000 start × Within 1 increment × (steps ≤ 301) ⌝ }
+    requires { ⌜ Fitting (now instants) (now positions) (now samples) (now frequencies) (now values) × Within farthestStart start × Within 1 increment × (steps ≤ 301) ⌝ }
     ensures { λ r. ⌜ r ≡ updates best (map (trial (residualOf (inputsOf tolerance (now (instants .entry)) (now (positions .entry)) observer f0)) (recording (now (samples .entry)) (now (frequencies .entry)))) (shiftsFrom steps 0 start increment)) ⌝ }
 {
     let mut least = best;
@@ -148,7 +149,7 @@ fn coarse_stage(
     centre: f64,
     values: &mut [f64],
 ) -> LeastSoFar
-    requires { ⌜ Fitting (now instants) (now positions) (now samples) (now frequencies) (now values) × Within 10001 centre ⌝ }
+    requires { ⌜ Fitting (now instants) (now positions) (now samples) (now frequencies) (now values) × Within farthestCentre centre ⌝ }
     ensures { λ r. ⌜ r ≡ updates (state noneYet) (map (trial (residualOf (inputsOf tolerance (now (instants .entry)) (now (positions .entry)) observer f0)) (recording (now (samples .entry)) (now (frequencies .entry)))) (coarse centre)) ⌝ }
 {
     let none = LeastSoFar {
@@ -201,7 +202,7 @@ fn finish_fit(
     values: &mut [f64],
     best: LeastSoFar,
 ) -> Fitted
-    requires { ⌜ Fitting (now instants) (now positions) (now samples) (now frequencies) (now values) × Within 10400 (best .shift) ⌝ }
+    requires { ⌜ Fitting (now instants) (now positions) (now samples) (now frequencies) (now values) × Within farthestBest (best .shift) ⌝ }
     ensures { λ r. ⌜ fitIn r ≡ finished (trial (residualOf (inputsOf tolerance (now (instants .entry)) (now (positions .entry)) observer f0)) (recording (now (samples .entry)) (now (frequencies .entry)))) (length (now (samples .entry))) best ⌝ }
 {
     if !(best.rmse < 1.7976931348623157e308) {
@@ -245,7 +246,7 @@ fn finish_fit(
 
 // The centre of the search, in seconds: measured minus predicted, in whole milliseconds over 1000.
 fn centre_between(predicted: i64, measured: i64) -> f64
-    requires { ⌜ (natAbs predicted ≤ 4100000000000000000) × (natAbs measured ≤ farthestInstant) ⌝ }
+    requires { ⌜ (natAbs predicted ≤ farthestMoved) × (natAbs measured ≤ farthestInstant) ⌝ }
     ensures { λ r. ⌜ r ≡ gapOf predicted measured ⌝ }
 {
     nearest((measured - predicted) / 1000000) / 1000.0

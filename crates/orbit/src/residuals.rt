@@ -4,12 +4,14 @@ ghost use mathlib.Core.List.{[], _++_, map};
 ghost use Prim.Native.Nat.{ℕ, _+_, _<_, _≤_};
 ghost use lib.IntN.{pos, natAbs, _-ℤ_, _*ℤ_};
 ghost use lib.ListN.{length, getD, take};
-ghost use Rattle.float.specs.Magnitude.{Within};
+ghost use Rattle.float.specs.Signs.{Within};
 ghost use Rattle.checks.specs.Limits.{farthestInstant};
-ghost use Rattle.samples.specs.Means.{recording};
+ghost use Rattle.samples.specs.Means.{recording, microsecond};
+ghost use Rattle.orbit.specs.Fitting.{farthestShift, farthestMicros};
 ghost use Rattle.orbit.specs.Table.{Table};
 ghost use Rattle.orbit.specs.Propagation.{propagated};
-ghost use Rattle.orbit.specs.Fit.{microseconds, residualAt, residualIn, keep, inputsOf, residuals, residualOf, total, minusZero, deviation};
+ghost use Rattle.orbit.specs.Residuals.{microseconds, residualAt, residualIn, keep, inputsOf, residuals, residualOf, total, deviation};
+ghost use Rattle.float.specs.Numbers.{minusZero};
 use crate::propagation::Propagation;
 use crate::propagation::propagate_at;
 use float::sqrt;
@@ -39,8 +41,8 @@ pub(crate) fn microseconds_of(shift: f64) -> i64
 
 // An instant moved earlier by whole microseconds.
 fn moved_earlier(t: i64, micros: i64) -> i64
-    requires { ⌜ (natAbs t ≤ farthestInstant) × (natAbs micros ≤ 20000000000) ⌝ }
-    ensures { λ r. ⌜ r ≡ t -ℤ micros *ℤ pos 1000 ⌝ }
+    requires { ⌜ (natAbs t ≤ farthestInstant) × (natAbs micros ≤ farthestMicros) ⌝ }
+    ensures { λ r. ⌜ r ≡ t -ℤ micros *ℤ pos microsecond ⌝ }
 {
     t - micros * 1000
 }
@@ -79,7 +81,7 @@ pub(crate) fn collect_residuals(
     shift: f64,
     values: &mut [f64],
 ) -> usize
-    requires { ⌜ Table (now instants) (now positions) × (length (now frequencies) ≡ length (now samples)) × (length (now samples) ≤ length (now values)) × ((k : ℕ) → natAbs (getD (now samples) k (pos 0)) ≤ farthestInstant) × Within 20000 shift ⌝ }
+    requires { ⌜ Table (now instants) (now positions) × (length (now frequencies) ≡ length (now samples)) × (length (now samples) ≤ length (now values)) × ((k : ℕ) → natAbs (getD (now samples) k (pos 0)) ≤ farthestInstant) × Within farthestShift shift ⌝ }
     ensures { λ r. ⌜ (r ≤ length (now (samples .entry))) × (take r (now (values .exit)) ≡ residuals (residualOf (inputsOf tolerance (now (instants .entry)) (now (positions .entry)) observer f0) shift) (recording (now (samples .entry)) (now (frequencies .entry)))) ⌝ }
 {
     let micros = microseconds_of(shift);

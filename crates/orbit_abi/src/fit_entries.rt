@@ -1,8 +1,9 @@
 // The fit of a recording to a satellite, and the whole pass.
 ghost use mathlib.Core.Path.{_≡_};
 ghost use Rattle.orbit.specs.Window.{evenTolerance};
-ghost use Rattle.orbit.specs.Fit.{inputsOf, satelliteFit, fitIn};
-ghost use Rattle.orbit.specs.Pass.{passReport, passInstants, passFrequencies};
+ghost use Rattle.orbit.specs.Fit.{satelliteFit, fitIn};
+ghost use Rattle.orbit.specs.Residuals.{inputsOf};
+ghost use Rattle.orbit.specs.Passes.{passReport, passInstants, passFrequencies};
 ghost use Rattle.orbit.specs.declared.fit.Report.{Report};
 ghost use Rattle.orbit_abi.specs.Areas.{refusalIn, areaOf};
 ghost use Rattle.orbit_abi.specs.Models.{observerOf, reportNumbers};

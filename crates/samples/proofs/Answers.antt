@@ -7,7 +7,7 @@ use lib.IntN.{ℤ, pos}
 use lib.ListN.{getD}
 use lib.Ieee.{Float, lt}
 use Rattle.checks.specs.Outcome.{Outcome, refused, answered}
-use Rattle.checks.specs.Limits.{nought}
+use Rattle.float.specs.Numbers.{nought}
 use Rattle.samples.specs.Approach.{noFloor, leastSlope, approachOf}
 
 -- ---- the instant of the best's middle, where its slope is below zero

@@ -7,7 +7,7 @@ use native.Mathlib.Omega.{arith}
 use lib.IntN.{ℤ}
 use lib.ListN.{length, getD}
 use lib.Ieee.{Float, nan, binary64, sub, div, lt}
-use Rattle.checks.specs.Limits.{nought}
+use Rattle.float.specs.Numbers.{nought}
 use Rattle.samples.specs.Approach.{Least, gapAt, slopeAt, steeper, seekLeast, leastSlope}
 
 -- ---- the three tests: no gap, not below the best, under the floor

@@ -12,7 +12,8 @@ use lib.Signed.{quotZ}
 use lib.ListN.{length, getD, take, length-append}
 use lib.Seq.{take-suc}
 use lib.Ieee.{Float, binary64, add}
-use Rattle.checks.specs.Limits.{farthestInstant, nought}
+use Rattle.checks.specs.Limits.{farthestInstant}
+use Rattle.float.specs.Numbers.{nought}
 use Rattle.samples.specs.Means.{Sample, microsecond, wholeSecond, eqZ, bin, offsets, frequencySum, meanInstant, meanFrequency, meanOf, instants}
 use Rattle.samples.specs.Sums.{sumsOf, moreOf, added, addedIn, meanFrom, asMean, Room, Held}
 use Rattle.samples.proofs.Parts.{over, under, Within, abs-parts, one-sided}

@@ -10,7 +10,7 @@ use Rattle.float.specs.Conversions.{nearestOf}
 use Rattle.checks.specs.Outcome.{Outcome, refused, answered, outcome, unlessRefused}
 use Rattle.checks.specs.Entries.{firstFailing, samplesChecks}
 use Rattle.units.specs.declared.Nanoseconds.{Nanoseconds}
-use Rattle.checks.specs.Limits.{nought}
+use Rattle.float.specs.Numbers.{nought}
 use Rattle.samples.specs.declared.approach.Approach.{Approach}
 use Rattle.samples.specs.declared.approach.Approach.the-variants.{At}
 use Rattle.samples.specs.declared.approach.Approach.the-variants.{Refused as NoApproach}
@@ -29,6 +29,10 @@ steepestSlope = fin true 15 (pos 3)
 -- the measured approach passes over none: nothing is under −infinity
 abbrev pub noFloor : Float
 noFloor = inf true
+
+-- an instant that passes check 4 lies within this even after it is moved by some hours, in nanoseconds
+abbrev pub farthestMoved : ℕ
+farthestMoved = 4100000000000000000
 
 -- nanoseconds in a millisecond
 abbrev pub millisecond : ℕ

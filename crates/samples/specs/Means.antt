@@ -11,7 +11,7 @@ use lib.Ieee.{Float, fin, binary64, add, div}
 use Rattle.float.specs.Conversions.{nearestOf}
 use Rattle.checks.specs.Outcome.{Outcome, refused, answered, outcome, area}
 use Rattle.checks.specs.Entries.{firstFailing, meansChecks}
-use Rattle.checks.specs.Limits.{nought}
+use Rattle.float.specs.Numbers.{nought}
 use Rattle.samples.specs.declared.means.Downsampled.{Downsampled}
 use Rattle.samples.specs.declared.means.Downsampled.the-variants.{Count, Refused}
 

@@ -2,7 +2,7 @@
 use mathlib.Core.Bool.{true, false, cond}
 use lib.IntN.{pos, negsuc}
 use lib.Ieee.{Float, fin, binary64, mul, div, lt}
-use Rattle.float.specs.Magnitude.{magnitudeOf}
+use Rattle.float.specs.Signs.{magnitudeOf}
 
 -- 7585 m/s, the speed of the satellite; 299792458 m/s, the speed of light; 0.1 Hz/s; 2,000,000 m
 abbrev pub satelliteSpeed : Float

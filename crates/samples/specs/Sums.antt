@@ -9,7 +9,8 @@ use lib.Signed.{quotZ}
 use lib.ListN.{length, getD}
 use lib.Ieee.{Float, binary64, add, div}
 use Rattle.float.specs.Conversions.{nearestOf}
-use Rattle.checks.specs.Limits.{mostSamples, farthestInstant, nought}
+use Rattle.checks.specs.Limits.{mostSamples, farthestInstant}
+use Rattle.float.specs.Numbers.{nought}
 use Rattle.samples.specs.declared.means.Bin.{Bin}
 use Rattle.samples.specs.declared.means.Mean.{Mean}
 use Rattle.samples.specs.Means.{Sample, second, microsecond, wholeSecond, eqZ, offsets, frequencySum, recording, means, instants, frequencies}

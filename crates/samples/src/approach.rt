@@ -4,7 +4,8 @@ ghost use mathlib.Core.Bool.{cond};
 ghost use Prim.Native.Nat.{ℕ, _+_, _<_, _≤_};
 ghost use lib.IntN.{pos, natAbs};
 ghost use lib.ListN.{length, getD};
-ghost use Rattle.samples.specs.Approach.{gapOf, slopeAt, steeper, leastSlope, measuredApproach, steepest, approachIn, slopeIn};
+ghost use Rattle.checks.specs.Limits.{farthestInstant};
+ghost use Rattle.samples.specs.Approach.{farthestMoved, gapOf, slopeAt, steeper, leastSlope, measuredApproach, steepest, approachIn, slopeIn};
 use checks::refuse_samples;
 use float::nearest;
 use units::Nanoseconds;
@@ -29,7 +30,7 @@ struct LeastSlope {
 
 // The seconds between two instants, in whole milliseconds over 1000.
 fn gap_between(previous: i64, next: i64) -> f64
-    requires { ⌜ (natAbs previous ≤ 4100000000000000000) × (natAbs next ≤ 4100000000000000000) ⌝ }
+    requires { ⌜ (natAbs previous ≤ farthestMoved) × (natAbs next ≤ farthestMoved) ⌝ }
     ensures { λ r. ⌜ r ≡ gapOf previous next ⌝ }
 {
     nearest((next - previous) / 1000000) / 1000.0
@@ -43,7 +44,7 @@ fn steeper_at(
     floor: f64,
     best: LeastSlope,
 ) -> LeastSlope
-    requires { ⌜ (0 < i) × (i + 1 < length (now instants)) × (length (now frequencies) ≡ length (now instants)) × ((k : ℕ) → natAbs (getD (now instants) k (pos 0)) ≤ 4000000000000000000) ⌝ }
+    requires { ⌜ (0 < i) × (i + 1 < length (now instants)) × (length (now frequencies) ≡ length (now instants)) × ((k : ℕ) → natAbs (getD (now instants) k (pos 0)) ≤ farthestInstant) ⌝ }
     ensures { λ r. ⌜ (r .slope ≡ cond (steeper floor (now (instants .entry)) (now (frequencies .entry)) i (best .slope)) (slopeAt (now (instants .entry)) (now (frequencies .entry)) i) (best .slope)) × (r .middle ≡ cond (steeper floor (now (instants .entry)) (now (frequencies .entry)) i (best .slope)) i (best .middle)) ⌝ }
 {
     let gap = gap_between(instants[i - 1], instants[i + 1]);
@@ -62,7 +63,7 @@ fn steeper_at(
 
 // The first least slope below zero that is not under the floor; 0.0 where there is none.
 fn least_slope(instants: &[i64], frequencies: &[f64], floor: f64) -> LeastSlope
-    requires { ⌜ (0 < length (now instants)) × (length (now frequencies) ≡ length (now instants)) × ((k : ℕ) → natAbs (getD (now instants) k (pos 0)) ≤ 4000000000000000000) ⌝ }
+    requires { ⌜ (0 < length (now instants)) × (length (now frequencies) ≡ length (now instants)) × ((k : ℕ) → natAbs (getD (now instants) k (pos 0)) ≤ farthestInstant) ⌝ }
     ensures { λ r. ⌜ (r .slope ≡ leastSlope floor (now (instants .entry)) (now (frequencies .entry)) .slope) × (r .middle ≡ leastSlope floor (now (instants .entry)) (now (frequencies .entry)) .middle) × (r .middle < length (now (instants .entry))) ⌝ }
 {
     let mut best = LeastSlope {

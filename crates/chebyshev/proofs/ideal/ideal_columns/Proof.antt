@@ -2,7 +2,7 @@
 -- Assumes nothing.
 use mathlib.Core.Path.{_≡_, refl, ap, _∙_}
 use lib.Ieee.{ofBits, add, sub, mul, div, lt, ofInt, neg}
-use Rattle.float.specs.Magnitude.{magnitudeOf}
+use Rattle.float.specs.Signs.{magnitudeOf}
 use Rattle.chebyshev.specs.Lists.{listOf}
 use Rattle.chebyshev.specs.Recurrence.{T}
 use Rattle.chebyshev.specs.Inverse.{inverted, columnsFrom, seek, cleared, reduced, divided}

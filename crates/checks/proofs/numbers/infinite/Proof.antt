@@ -3,7 +3,7 @@ use mathlib.Core.Path.{_≡_, refl}
 use mathlib.Core.Bool.{false, not}
 use borrow.Author.Needs.{needs}
 use lib.Ieee.{Float, nan, inf, fin, ofBits, lt, div}
-use Rattle.float.specs.Magnitude.{magnitudeOf}
+use Rattle.float.specs.Signs.{magnitudeOf}
 use Rattle.checks.specs.Checks.{infinite}
 use Rattle.checks.proofs.numbers.infinite.Statement.{statement}
 use Rattle.checks.proofs.numbers.infinite.Tie as tie

@@ -10,7 +10,8 @@ use mir.Syntax.{w64}
 use mir.Val.{SFits, toZ, ofZ}
 use mir.ValLaws.{toZ-ofZ}
 use Rattle.orbit.specs.declared.closest.Nearest.{Nearest}
-use Rattle.orbit.specs.Closest.{largest, later, seekNearest, byMinutes, bySeconds}
+use Rattle.orbit.specs.Closest.{movedBySeconds, seekNearest, byMinutes, bySeconds}
+use Rattle.float.specs.Numbers.{largestFinite}
 use Rattle.orbit.proofs.Offsets.{back, small-fits, before-small}
 use Rattle.orbit.proofs.Ranges.{minutes-small, seconds-small}
 use Rattle.orbit.proofs.closest.closest_at.Statement.{statement}
@@ -29,7 +30,7 @@ minutes-are c =
     let s = c .before .before in
     let a = s .args in
     c .seek-nearest .ensures
-    ∙ ap (λ (x : ℤ). seekNearest (a .tolerance) (a .instants .now) (a .positions .now) (a .observer) x 101 0 (negsuc 2999) 60 (record { range = largest; offset = pos 0 })) (toZ-ofZ w64 (a .around) (s .fits .around))
+    ∙ ap (λ (x : ℤ). seekNearest (a .tolerance) (a .instants .now) (a .positions .now) (a .observer) x 101 0 (negsuc 2999) 60 (record { range = largestFinite; offset = pos 0 })) (toZ-ofZ w64 (a .around) (s .fits .around))
 
 centre-small : (c : tie.After-seek-nearest) → natAbs (c .seek-nearest .result .offset) ≤ 9060
 centre-small c = subst (λ (n : Nearest). natAbs (n .offset) ≤ 9060) (sym (minutes-are c)) (let s = c .before .before in minutes-small (s .args .tolerance) (s .args .instants .now) (s .args .positions .now) (s .args .observer) (s .args .around))
@@ -58,9 +59,9 @@ seconds-are c =
     let s = at .before .before in
     let a = s .args in
     c .seek-nearest2 .ensures
-    ∙ ap₂ (λ (x : ℤ) (y : ℤ). seekNearest (a .tolerance) (a .instants .now) (a .positions .now) (a .observer) x 121 0 y 1 (record { range = largest; offset = back (at .seek-nearest .result .offset) })) (toZ-ofZ w64 (a .around) (s .fits .around)) (first-is at)
-    ∙ ap (λ (z : ℤ). seekNearest (a .tolerance) (a .instants .now) (a .positions .now) (a .observer) (a .around) 121 0 (first-of at) 1 (record { range = largest; offset = z })) (centre-is at)
-    ∙ ap (λ (n : Nearest). seekNearest (a .tolerance) (a .instants .now) (a .positions .now) (a .observer) (a .around) 121 0 (n .offset +ℤ negsuc 59) 1 (record { range = largest; offset = n .offset })) (minutes-are at)
+    ∙ ap₂ (λ (x : ℤ) (y : ℤ). seekNearest (a .tolerance) (a .instants .now) (a .positions .now) (a .observer) x 121 0 y 1 (record { range = largestFinite; offset = back (at .seek-nearest .result .offset) })) (toZ-ofZ w64 (a .around) (s .fits .around)) (first-is at)
+    ∙ ap (λ (z : ℤ). seekNearest (a .tolerance) (a .instants .now) (a .positions .now) (a .observer) (a .around) 121 0 (first-of at) 1 (record { range = largestFinite; offset = z })) (centre-is at)
+    ∙ ap (λ (n : Nearest). seekNearest (a .tolerance) (a .instants .now) (a .positions .now) (a .observer) (a .around) 121 0 (n .offset +ℤ negsuc 59) 1 (record { range = largestFinite; offset = n .offset })) (minutes-are at)
 
 found-small : (c : tie.After-seek-nearest2) → natAbs (c .seek-nearest2 .result .offset) ≤ 10000
 found-small c = subst (λ (n : Nearest). natAbs (n .offset) ≤ 10000) (sym (seconds-are c)) (let s = c .before .before .before .before in seconds-small (s .args .tolerance) (s .args .instants .now) (s .args .positions .now) (s .args .observer) (s .args .around))
@@ -91,7 +92,7 @@ returns c =
     let call = c .moved-by-seconds in
     toZ-ofZ w64 (call .result) (record { sfits = call .ok })
     ∙ call .ensures
-    ∙ ap₂ later (toZ-ofZ w64 (s .args .around) (s .fits .around)) (found-is (c .before .before) ∙ ap (λ (n : Nearest). n .offset) (seconds-are (c .before .before)))
+    ∙ ap₂ movedBySeconds (toZ-ofZ w64 (s .args .around) (s .fits .around)) (found-is (c .before .before) ∙ ap (λ (n : Nearest). n .offset) (seconds-are (c .before .before)))
 
 pub closest-at-spec : {M : Type 1} → statement M
 closest-at-spec =

@@ -6,7 +6,7 @@ use mir.Val.{toZ, ofZ}
 use mir.ValLaws.{toZ-ofZ}
 use Rattle.checks.specs.Outcome.{Outcome}
 use Rattle.orbit.specs.Propagation.{Motion, motionIn, propagated}
-use Rattle.orbit.specs.Closest.{later}
+use Rattle.orbit.specs.Closest.{movedBySeconds}
 use Rattle.orbit.proofs.Ranges.{nearer-refused, nearer-won, nearer-lost}
 use borrow.Author.Needs.{needs}
 use Rattle.orbit.proofs.closest.nearer_at.Statement.{statement}
@@ -25,16 +25,16 @@ enum-told : tie.Need-enum-told
 enum-told c = search needs
 
 abbrev at-offset : tie.Start → Outcome Motion
-at-offset s = propagated (s .args .tolerance) (s .args .instants .now) (s .args .positions .now) (later (s .args .around) (s .args .offset))
+at-offset s = propagated (s .args .tolerance) (s .args .instants .now) (s .args .positions .now) (movedBySeconds (s .args .around) (s .args .offset))
 
 propagated-there : (c : tie.After-propagate-at) → motionIn (c .propagate-at .result) ≡ at-offset (c .before .before .before)
 propagated-there c = let s = c .before .before .before in c .propagate-at .ensures ∙ ap (propagated (s .args .tolerance) (s .args .instants .now) (s .args .positions .now)) (moved (c .before))
   where
-    moved : (c : tie.After-moved-by-seconds) → toZ w64 (ofZ w64 (c .moved-by-seconds .result)) ≡ later (c .before .before .args .around) (c .before .before .args .offset)
+    moved : (c : tie.After-moved-by-seconds) → toZ w64 (ofZ w64 (c .moved-by-seconds .result)) ≡ movedBySeconds (c .before .before .args .around) (c .before .before .args .offset)
     moved c =
         let s = c .before .before in
         let call = c .moved-by-seconds in
-        toZ-ofZ w64 (call .result) (record { sfits = call .ok }) ∙ call .ensures ∙ ap₂ later (toZ-ofZ w64 (s .args .around) (s .fits .around)) (toZ-ofZ w64 (s .args .offset) (s .fits .offset))
+        toZ-ofZ w64 (call .result) (record { sfits = call .ok }) ∙ call .ensures ∙ ap₂ movedBySeconds (toZ-ofZ w64 (s .args .around) (s .fits .around)) (toZ-ofZ w64 (s .args .offset) (s .fits .offset))
 
 returns : tie.Need-returns
 returns c =

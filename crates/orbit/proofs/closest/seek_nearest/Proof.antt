@@ -8,7 +8,7 @@ use mir.Syntax.{w64}
 use mir.Val.{toZ, ofZ}
 use mir.ValLaws.{toZ-ofZ}
 use Rattle.orbit.specs.Propagation.{propagated}
-use Rattle.orbit.specs.Closest.{later, nearer, seekNearest}
+use Rattle.orbit.specs.Closest.{movedBySeconds, nearer, seekNearest}
 use Rattle.orbit.proofs.Offsets.{offset-small}
 use Rattle.orbit.proofs.Ranges.{seek-step, seek-end}
 use borrow.Author.Needs.{needs}
@@ -65,8 +65,8 @@ loop-again c =
     let around = toZ w64 (ofZ w64 (a .around)) in
     let offset = c .before .offset-of in
     let e : toZ w64 (ofZ w64 (offset .result)) ≡ first +ℤ pos (a .step * at .k) = toZ-ofZ w64 (offset .result) (record { sfits = offset .ok }) ∙ offset .ensures in
-    let turned : c .nearer-at .result ≡ nearer (a .observer) (propagated (a .tolerance) (a .instants .now) (a .positions .now) (later around (first +ℤ pos (a .step * at .k)))) (first +ℤ pos (a .step * at .k)) (at .best) =
-    c .nearer-at .ensures ∙ ap (λ (z : ℤ). nearer (a .observer) (propagated (a .tolerance) (a .instants .now) (a .positions .now) (later around z)) z (at .best)) e in
+    let turned : c .nearer-at .result ≡ nearer (a .observer) (propagated (a .tolerance) (a .instants .now) (a .positions .now) (movedBySeconds around (first +ℤ pos (a .step * at .k)))) (first +ℤ pos (a .step * at .k)) (at .best) =
+    c .nearer-at .ensures ∙ ap (λ (z : ℤ). nearer (a .observer) (propagated (a .tolerance) (a .instants .now) (a .positions .now) (movedBySeconds around z)) z (at .best)) e in
     (search needs, rw turned (seek-step (a .tolerance) (a .instants .now) (a .positions .now) (a .observer) around (a .count) (at .k) first (a .step) (at .best) (omega arith) ∙ at .inv .1))
 
 returns : tie.Need-returns Inv-loop μ-loop

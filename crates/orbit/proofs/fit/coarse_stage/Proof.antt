@@ -5,12 +5,13 @@ use mathlib.Core.List.{map}
 use native.Mathlib.Omega.{arith}
 use borrow.Author.Tests.{not-true, not-false}
 use lib.Ieee.{Float, binary64, sub, lt, ofBits}
-use Rattle.float.specs.Magnitude.{Within}
+use Rattle.float.specs.Signs.{Within}
 use Rattle.float.proofs.Bounds.{sub-within}
 use Rattle.samples.specs.Means.{recording}
-use Rattle.checks.specs.Limits.{nought}
+use Rattle.float.specs.Numbers.{nought}
 use Rattle.orbit.specs.declared.fit.LeastSoFar.{LeastSoFar}
-use Rattle.orbit.specs.Fit.{Trial, inputsOf, residualOf, trial, fifteen, tenth, five, noneYet, shiftsFrom}
+use Rattle.orbit.specs.Fit.{Trial, trial, fifteen, tenth, five, noneYet, shiftsFrom}
+use Rattle.orbit.specs.Residuals.{inputsOf, residualOf}
 use Rattle.orbit.specs.State.{updates, state}
 use Rattle.orbit.proofs.Shifts.{weaken}
 use Rattle.orbit.proofs.Finish.{start-within, still-fitting, coarse-one, coarse-two}

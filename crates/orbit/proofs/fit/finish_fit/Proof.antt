@@ -7,15 +7,16 @@ use native.Mathlib.Omega.{arith}
 use borrow.Author.Tests.{not-true, not-false}
 use lib.ListN.{length}
 use lib.Ieee.{Float, binary64, sub, lt, ofBits}
-use Rattle.float.specs.Magnitude.{Within}
+use Rattle.float.specs.Signs.{Within}
 use Rattle.float.proofs.Bounds.{sub-within}
 use Rattle.samples.specs.Means.{recording}
 use Rattle.checks.specs.Outcome.{Outcome, refused, answered}
 use Rattle.orbit.specs.declared.fit.LeastSoFar.{LeastSoFar}
 use Rattle.orbit.specs.declared.fit.Report.{Report}
-use Rattle.orbit.specs.Closest.{largest}
-use Rattle.orbit.specs.Fit.{Trial, inputsOf, residualOf, trial, twentieth, thousandth, hundredThousandth, shiftsFrom, fine, micro}
-use Rattle.orbit.specs.State.{updates, stageFrom, reported}
+use Rattle.float.specs.Numbers.{largestFinite}
+use Rattle.orbit.specs.Fit.{Trial, trial, twentieth, thousandth, hundredThousandth, shiftsFrom, fine, micro}
+use Rattle.orbit.specs.Residuals.{inputsOf, residualOf}
+use Rattle.orbit.specs.State.{updates, stageFrom, reportFrom}
 use Rattle.orbit.proofs.Shifts.{weaken}
 use Rattle.orbit.proofs.Trials.{shift-is}
 use Rattle.orbit.proofs.Finish.{start-within, still-fitting, stage-kept, fine-from, micro-from}
@@ -45,7 +46,7 @@ returns : tie.Need-returns
 unfolding ofBits
 returns c =
     let s = c .before .before .before .before .before in
-    sym (ap (λ (b : Bool). cond b (answered (reported (length (s .args .samples .now)) (stageFrom (try-of s) micro (stageFrom (try-of s) fine (s .args .best))))) (refused 10)) (not-true (lt (s .args .best .rmse) largest) (c .if1 .taken)))
+    sym (ap (λ (b : Bool). cond b (answered (reportFrom (length (s .args .samples .now)) (stageFrom (try-of s) micro (stageFrom (try-of s) fine (s .args .best))))) (refused 10)) (not-true (lt (s .args .best .rmse) largestFinite) (c .if1 .taken)))
 
 run-stage-requires : tie.Need-run-stage-requires
 unfolding ofBits
@@ -72,8 +73,8 @@ returns-2 c =
     let try = try-of s in
     let best = s .args .best in
     let n = length (s .args .samples .now) in
-    ap (λ (x : LeastSoFar). answered (reported n x)) (second .run-stage2 .ensures ∙ micro-from try (at .run-stage .result) ∙ ap (stageFrom try micro) (fine-is at ∙ fine-from try best))
-    ∙ sym (ap (λ (b : Bool). cond b (answered (reported n (stageFrom try micro (stageFrom try fine best)))) (refused 10)) (not-false (lt (best .rmse) largest) (at .before .before .before .if1 .left)))
+    ap (λ (x : LeastSoFar). answered (reportFrom n x)) (second .run-stage2 .ensures ∙ micro-from try (at .run-stage .result) ∙ ap (stageFrom try micro) (fine-is at ∙ fine-from try best))
+    ∙ sym (ap (λ (b : Bool). cond b (answered (reportFrom n (stageFrom try micro (stageFrom try fine best)))) (refused 10)) (not-false (lt (best .rmse) largestFinite) (at .before .before .before .if1 .left)))
 
 pub finish-fit-spec : {M : Type 1} → statement M
 finish-fit-spec =

@@ -8,14 +8,15 @@ use lib.ListN.{length}
 use lib.Ieee.{Float}
 use mir.Syntax.{w64}
 use mir.ValLaws.{toZ-ofZ}
-use Rattle.float.specs.Magnitude.{Within}
+use Rattle.float.specs.Signs.{Within}
 use Rattle.samples.specs.Means.{Sample, recording}
 use Rattle.samples.specs.Approach.{gapOf}
 use Rattle.checks.specs.Outcome.{Outcome}
 use Rattle.orbit.specs.declared.fit.LeastSoFar.{LeastSoFar}
 use Rattle.orbit.specs.declared.fit.Report.{Report}
 use Rattle.orbit.specs.Closest.{closestInstant}
-use Rattle.orbit.specs.Fit.{Trial, Residual, inputsOf, residualOf, trial, noneYet, coarse, fitBy}
+use Rattle.orbit.specs.Fit.{Trial, trial, noneYet, coarse, fitBy}
+use Rattle.orbit.specs.Residuals.{Residual, inputsOf, residualOf}
 use Rattle.orbit.specs.State.{state, updates, finished}
 use Rattle.samples.proofs.Recordings.{record-length}
 use Rattle.orbit.proofs.Offsets.{back, near-is}

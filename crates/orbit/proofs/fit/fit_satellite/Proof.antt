@@ -12,7 +12,8 @@ use Rattle.checks.proofs.Passed.{fit-table, fit-samples, fit-near}
 use Rattle.checks.proofs.Outcomes.{unless-refused, unless-none}
 use Rattle.orbit.specs.declared.fit.Report.{Report}
 use Rattle.orbit.specs.Window.{evenTolerance}
-use Rattle.orbit.specs.Fit.{inputsOf, fitted}
+use Rattle.orbit.specs.Fit.{fitted}
+use Rattle.orbit.specs.Residuals.{inputsOf}
 use Rattle.orbit.proofs.Offsets.{near-is}
 use Rattle.orbit.proofs.Tables.{table-of}
 use borrow.Author.Needs.{needs}

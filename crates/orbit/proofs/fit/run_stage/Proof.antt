@@ -5,10 +5,11 @@ use Prim.Native.Nat.{ℕ, _+_, _-_, _≤_, _<_}
 use native.Mathlib.Omega.{arith}
 use lib.ListN.{length}
 use lib.Ieee.{Float}
-use Rattle.float.specs.Magnitude.{Within}
+use Rattle.float.specs.Signs.{Within}
 use Rattle.samples.specs.Means.{recording}
 use Rattle.orbit.specs.declared.fit.LeastSoFar.{LeastSoFar}
-use Rattle.orbit.specs.Fit.{Trial, inputsOf, residualOf, trial, shiftAt, shiftsFrom}
+use Rattle.orbit.specs.Fit.{Trial, trial, shiftAt, shiftsFrom}
+use Rattle.orbit.specs.Residuals.{inputsOf, residualOf}
 use Rattle.orbit.specs.State.{update, updates}
 use Rattle.orbit.proofs.Shifts.{stage-within, weaken}
 use Rattle.orbit.proofs.Updates.{stage-step, stage-end}

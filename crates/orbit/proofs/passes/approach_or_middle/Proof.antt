@@ -6,7 +6,7 @@ use lib.ListN.{length, getD}
 use Rattle.checks.specs.Outcome.{Outcome, unlessRefused}
 use Rattle.checks.proofs.Passed.{samples-pass}
 use Rattle.samples.specs.Approach.{approachOf, approachIn}
-use Rattle.orbit.specs.Pass.{approachOr, middleOf, measuredBy}
+use Rattle.orbit.specs.Passes.{approachOr, middleOf, measuredBy}
 use Rattle.orbit.proofs.Offsets.{back, near-is}
 use Rattle.orbit.proofs.Middles.{measured-near, passed-samples}
 use borrow.Author.Needs.{needs}

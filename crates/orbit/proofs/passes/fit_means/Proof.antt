@@ -3,8 +3,9 @@ use mathlib.Core.Path.{_≡_, sym, ap, _∙_, subst}
 use Prim.Native.Nat.{ℕ, _≤_}
 use lib.IntN.{ℤ, natAbs}
 use Rattle.samples.specs.Means.{recording}
-use Rattle.orbit.specs.Fit.{inputsOf, fitted}
-use Rattle.orbit.specs.Pass.{measuredBy}
+use Rattle.orbit.specs.Fit.{fitted}
+use Rattle.orbit.specs.Residuals.{inputsOf}
+use Rattle.orbit.specs.Passes.{measuredBy}
 use Rattle.orbit.proofs.Offsets.{back, near-is}
 use borrow.Author.Needs.{needs}
 use Rattle.orbit.proofs.passes.fit_means.Statement.{statement}

@@ -16,8 +16,9 @@ use Rattle.samples.proofs.Recordings.{record-length}
 use Rattle.orbit.specs.declared.fit.Report.{Report}
 use Rattle.orbit.specs.Fitting.{Sampled}
 use Rattle.orbit.specs.Window.{evenTolerance}
-use Rattle.orbit.specs.Fit.{Inputs, inputsOf, fitted, fitIn}
-use Rattle.orbit.specs.Pass.{measuredBy, measuredOf, passOutcome, passRefusal}
+use Rattle.orbit.specs.Fit.{fitted, fitIn}
+use Rattle.orbit.specs.Residuals.{Inputs, inputsOf}
+use Rattle.orbit.specs.Passes.{measuredBy, measuredOf, passOutcome, passRefusal}
 use Rattle.orbit.proofs.Tables.{table-of}
 use Rattle.orbit.proofs.Trials.{length-front}
 use Rattle.orbit.proofs.Middles.{by-parts, means-sampled, front, same-count, not-refused}

@@ -11,7 +11,7 @@ use mir.Val.{toZ, ofZ}
 use mir.ValLaws.{toZ-ofZ}
 use Rattle.samples.specs.Means.{Sample, recording}
 use Rattle.orbit.specs.Propagation.{propagated}
-use Rattle.orbit.specs.Fit.{inputsOf, microseconds, residualIn, residualOf, keep, residuals}
+use Rattle.orbit.specs.Residuals.{inputsOf, microseconds, residualIn, residualOf, keep, residuals}
 use Rattle.orbit.proofs.Totals.{residuals-step, residuals-end}
 use Rattle.orbit.proofs.Shifts.{microseconds-small}
 use Rattle.orbit.proofs.Offsets.{near-is}

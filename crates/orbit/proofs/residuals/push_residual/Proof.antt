@@ -9,7 +9,7 @@ use mir.Syntax.{w64}
 use mir.ValLaws.{toZ-ofZ}
 use Rattle.checks.specs.Outcome.{Outcome}
 use Rattle.orbit.specs.Propagation.{Motion, motionIn, propagated}
-use Rattle.orbit.specs.Fit.{keep, residualIn}
+use Rattle.orbit.specs.Residuals.{keep, residualIn}
 use Rattle.orbit.proofs.Totals.{pushed}
 use borrow.Author.Needs.{needs}
 use Rattle.orbit.proofs.residuals.push_residual.Statement.{statement}

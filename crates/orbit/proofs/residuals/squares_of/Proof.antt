@@ -5,7 +5,8 @@ use native.Mathlib.Omega.{arith}
 use lib.ListN.{length, take, drop}
 use lib.Ieee.{Float, ofBits, neg}
 use mathlib.Core.List.{map}
-use Rattle.orbit.specs.Fit.{total, minusZero, deviation}
+use Rattle.orbit.specs.Residuals.{total, deviation}
+use Rattle.float.specs.Numbers.{minusZero}
 use Rattle.orbit.proofs.Totals.{mapped-step, mapped-end}
 use borrow.Author.Needs.{needs}
 use Rattle.orbit.proofs.residuals.squares_of.Statement.{statement}

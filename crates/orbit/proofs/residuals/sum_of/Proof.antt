@@ -4,7 +4,8 @@ use Prim.Native.Nat.{ℕ, _+_, _-_, _≤_, _<_}
 use native.Mathlib.Omega.{arith}
 use lib.ListN.{length, take, drop}
 use lib.Ieee.{Float, ofBits, neg}
-use Rattle.orbit.specs.Fit.{total, minusZero}
+use Rattle.orbit.specs.Residuals.{total}
+use Rattle.float.specs.Numbers.{minusZero}
 use Rattle.orbit.proofs.Totals.{total-step, total-end}
 use borrow.Author.Needs.{needs}
 use Rattle.orbit.proofs.residuals.sum_of.Statement.{statement}

@@ -6,7 +6,8 @@ use mir.Val.{toZ, ofZ}
 use mir.ValLaws.{toZ-ofZ}
 use Rattle.checks.specs.Outcome.{Outcome}
 use Rattle.orbit.specs.Window.{evenTolerance}
-use Rattle.orbit.specs.Fit.{inputsOf, satelliteFit, fitIn}
+use Rattle.orbit.specs.Fit.{satelliteFit, fitIn}
+use Rattle.orbit.specs.Residuals.{inputsOf}
 use Rattle.orbit.specs.declared.fit.Report.{Report}
 use Rattle.orbit_abi.specs.Models.{observerOf, reportNumbers}
 use Rattle.orbit_abi.proofs.Outcomes.{given-as}

@@ -1,7 +1,8 @@
 -- The report that is put into the two areas is that of the pass; the areas of the means are as the entry left them. Assumes nothing.
 use Rattle.orbit.specs.Window.{evenTolerance}
-use Rattle.orbit.specs.Fit.{inputsOf, fitIn}
-use Rattle.orbit.specs.Pass.{passReport}
+use Rattle.orbit.specs.Fit.{fitIn}
+use Rattle.orbit.specs.Residuals.{inputsOf}
+use Rattle.orbit.specs.Passes.{passReport}
 use Rattle.orbit.specs.declared.fit.Report.{Report}
 use Rattle.orbit_abi.specs.Models.{observerOf, reportNumbers}
 use Rattle.orbit_abi.proofs.Outcomes.{given-as}

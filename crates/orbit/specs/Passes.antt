@@ -9,7 +9,8 @@ use Rattle.checks.specs.Entries.{firstFailing, passChecks}
 use Rattle.samples.specs.Means.{Sample, recording, means, instants, frequencies}
 use Rattle.samples.specs.Approach.{approachOf}
 use Rattle.orbit.specs.declared.fit.Report.{Report}
-use Rattle.orbit.specs.Fit.{Inputs, fitted}
+use Rattle.orbit.specs.Fit.{fitted}
+use Rattle.orbit.specs.Residuals.{Inputs}
 
 -- the measured approach of the means, or else the mean at index count/2
 abbrev pub approachOr : ℤ → Outcome ℤ → ℤ
