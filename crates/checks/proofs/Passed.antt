@@ -14,23 +14,8 @@ use lib.Ieee.{Float}
 use lib.ListN.{length, getD}
 use Rattle.checks.specs.Checks.{any, miscounted, unsampled, tooShort, beyond, unrising}
 use Rattle.checks.specs.Entries.{firstFailing, evaluationChecks, propagationChecks, closestChecks, meansChecks, samplesChecks, fitChecks, passChecks}
+use Rattle.checks.specs.Passed.{Table, Samples}
 use Rattle.checks.proofs.First.{passed, neither}
-
--- the coordinates: how many, in which order and how far from 1970
-pub record Table (ts : List ℤ) (ps : List Float) : Type 0 where
-  pub enough : 10 ≤ length ts
-  pub few : length ts ≤ 4096
-  pub three : length ps ≡ 3 * length ts
-  pub rising : (k : ℕ) → k + 1 < length ts → getD ts k (pos 0) <ℤ getD ts (k + 1) (pos 0)
-  pub near : (k : ℕ) → natAbs (getD ts k (pos 0)) ≤ 4000000000000000000
-  pub risen : unrising ts ≡ false
-
--- the samples
-pub record Samples (ss : List ℤ) (fs : List Float) : Type 0 where
-  pub some : 0 < length ss
-  pub few : length ss ≤ 4096
-  pub same : length fs ≡ length ss
-  pub near : (k : ℕ) → natAbs (getD ss k (pos 0)) ≤ 4000000000000000000
 
 -- check 4, of one instant and of each of a list
 near-one : (t : ℤ) → beyond t ≡ false → natAbs t ≤ 4000000000000000000

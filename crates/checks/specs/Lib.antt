@@ -3,3 +3,4 @@ pub mod Outcome
 pub mod Limits
 pub mod Checks
 pub mod Entries
+pub mod Passed

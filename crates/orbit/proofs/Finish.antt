@@ -28,7 +28,7 @@ start-within a b x y l h k = weaken (a + b) 12000 (sub binary64 x y) l (sub-with
 
 -- the values may have changed, but not in number
 pub still-fitting : {instants samples : List ℤ} {positions frequencies values : List Float} (values′ : List Float) → length values′ ≡ length values → Fitting instants positions samples frequencies values → Fitting instants positions samples frequencies values′
-still-fitting values′ e h = record { table = h .table; same = h .same; few = h .few; near = h .near; room = omega (arith, h .room, e) }
+still-fitting values′ e h = record { table = h .table; sampled = h .sampled; room = omega (arith, h .room, e) }
 
 -- the fine and the micro stage from a state, as the code runs them
 pub fine-from : (try : Float → Trial) (s : LeastSoFar) → updates s (map try (shiftsFrom 101 0 (sub binary64 (s .shift) twentieth) thousandth)) ≡ stageFrom try fine s

@@ -1,6 +1,5 @@
 -- What the proofs of orbit share, and the laws and theorems that a reader cites (`pub`).
 mod Searches
-mod Tables
 mod Models
 mod Offsets
 mod Ranges

@@ -14,9 +14,8 @@ use Rattle.samples.specs.Approach.{noFloor, leastSlope, approachOf}
 use Rattle.samples.proofs.Seconds.{some-means, few-means}
 use Rattle.samples.proofs.OwnSeconds.{Limited, limited-means}
 use Rattle.samples.proofs.Recordings.{record-length, record-instants}
-use Rattle.checks.proofs.Passed.{Samples}
+use Rattle.checks.specs.Passed.{Samples}
 use Rattle.float.specs.Numbers.{nought}
-use Rattle.orbit.specs.Fitting.{Sampled}
 use Rattle.orbit.specs.Passes.{approachOr, middleOf, measuredBy}
 
 pub measured-near : (ts : List ℤ) (fs : List Float) → ((k : ℕ) → natAbs (getD ts k (pos 0)) ≤ 4000000000000000000) → natAbs (measuredBy ts fs) ≤ 4000000000000000000
@@ -26,10 +25,6 @@ measured-near ts fs h = go (lt (leastSlope noFloor ts fs .slope) nought)
     go true = h (leastSlope noFloor ts fs .middle)
     go false = h (length ts / 2)
 
--- samples as the checks of another crate see them
-pub passed-samples : (ts : List ℤ) (fs : List Float) → Sampled ts fs → Samples ts fs
-passed-samples ts fs h = record { some = h .some; few = h .few; same = h .same; near = h .near }
-
 -- a list of samples by its two parts
 pub by-parts : (M : List Sample) → recording (instants M) (frequencies M) ≡ M
 unfolding recording
@@ -37,7 +32,7 @@ by-parts [] = refl
 by-parts (x ∷ M) = ap {B = List Sample} (λ l. x ∷ l) (by-parts M)
 
 -- the means of samples that passed their checks pass them too
-pub means-sampled : (ts : List ℤ) (fs : List Float) → Samples ts fs → Sampled (instants (means (recording ts fs))) (frequencies (means (recording ts fs)))
+pub means-sampled : (ts : List ℤ) (fs : List Float) → Samples ts fs → Samples (instants (means (recording ts fs))) (frequencies (means (recording ts fs)))
 means-sampled ts fs h =
     let S = recording ts fs in
     let M = means S in

@@ -1,5 +1,4 @@
 -- The definitions of orbit: window, model, propagation and closest approach.
-pub mod Table
 pub mod Window
 pub mod Propagation
 pub mod Closest

@@ -3,7 +3,7 @@ ghost use mathlib.Core.Path.{_≡_};
 ghost use Prim.Native.Nat.{_+_, _*_, _≤_};
 ghost use lib.IntN.{ℤ, pos, natAbs, _+ℤ_};
 ghost use Rattle.checks.specs.Limits.{farthestInstant};
-ghost use Rattle.orbit.specs.Table.{Table};
+ghost use Rattle.checks.specs.Passed.{Table};
 ghost use Rattle.orbit.specs.Fitting.{farthestOffset};
 ghost use Rattle.orbit.specs.Propagation.{propagated};
 ghost use Rattle.orbit.specs.Closest.{squaredRange, movedBySeconds, nearer, seekNearest, closestInstant, closestApproach, closestIn};

@@ -1,14 +1,13 @@
 // The fit of a recording to a satellite: the shift of its clock with the first least RMSE.
 ghost use mathlib.Core.Path.{_≡_};
 ghost use mathlib.Core.List.{map};
-ghost use Prim.Native.Nat.{ℕ, _<_, _≤_};
-ghost use lib.IntN.{pos, natAbs};
-ghost use lib.ListN.{length, getD};
+ghost use Prim.Native.Nat.{_<_, _≤_};
+ghost use lib.IntN.{natAbs};
+ghost use lib.ListN.{length};
 ghost use Rattle.float.specs.Signs.{Within};
-ghost use Rattle.checks.specs.Limits.{mostSamples, farthestInstant};
+ghost use Rattle.checks.specs.Limits.{farthestInstant};
 ghost use Rattle.samples.specs.Means.{recording};
 ghost use Rattle.samples.specs.Approach.{gapOf, farthestMoved};
-ghost use Rattle.orbit.specs.Table.{Table};
 ghost use Rattle.orbit.specs.Fitting.{Fitting, farthestCentre, farthestBest, farthestStart, farthestShift};
 ghost use Rattle.orbit.specs.Window.{evenTolerance};
 ghost use Rattle.orbit.specs.Fit.{trial, shiftAt, shiftsFrom, coarse, noneYet, fitted, satelliteFit, fitIn};
@@ -61,7 +60,7 @@ fn try_shift(
     values: &mut [f64],
     best: LeastSoFar,
 ) -> LeastSoFar
-    requires { ⌜ Table (now instants) (now positions) × (length (now frequencies) ≡ length (now samples)) × (length (now samples) ≤ length (now values)) × ((k : ℕ) → natAbs (getD (now samples) k (pos 0)) ≤ farthestInstant) × Within farthestShift shift × (length (now samples) ≤ mostSamples) ⌝ }
+    requires { ⌜ Fitting (now instants) (now positions) (now samples) (now frequencies) (now values) × Within farthestShift shift ⌝ }
     ensures { λ r. ⌜ r ≡ update best (trial (residualOf (inputsOf tolerance (now (instants .entry)) (now (positions .entry)) observer f0)) (recording (now (samples .entry)) (now (frequencies .entry))) shift) ⌝ }
 {
     let count = collect_residuals(

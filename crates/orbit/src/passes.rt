@@ -4,8 +4,7 @@ ghost use Prim.Native.Nat.{_≤_};
 ghost use lib.IntN.{natAbs};
 ghost use Rattle.checks.specs.Limits.{farthestInstant};
 ghost use Rattle.samples.specs.Means.{recording};
-ghost use Rattle.orbit.specs.Table.{Table};
-ghost use Rattle.orbit.specs.Fitting.{Sampled};
+ghost use Rattle.checks.specs.Passed.{Table, Samples};
 ghost use Rattle.orbit.specs.Window.{evenTolerance};
 ghost use Rattle.orbit.specs.Fit.{fitted, fitIn};
 ghost use Rattle.orbit.specs.Residuals.{inputsOf};
@@ -22,7 +21,7 @@ use units::Observer;
 
 // The measured approach of samples in nanoseconds, or else the instant of the one at index count/2.
 fn approach_or_middle(samples: &[i64], frequencies: &[f64]) -> i64
-    requires { ⌜ Sampled (now samples) (now frequencies) ⌝ }
+    requires { ⌜ Samples (now samples) (now frequencies) ⌝ }
     ensures { λ r. ⌜ (r ≡ measuredBy (now (samples .entry)) (now (frequencies .entry))) × (natAbs r ≤ farthestInstant) ⌝ }
 {
     let measured = estimate_measured_pca_time(samples, frequencies);
@@ -45,7 +44,7 @@ fn fit_means(
     f0: f64,
     tolerance: f64,
 ) -> Fitted
-    requires { ⌜ Table (now instants) (now positions) × Sampled (now means) (now frequencies) ⌝ }
+    requires { ⌜ Table (now instants) (now positions) × Samples (now means) (now frequencies) ⌝ }
     ensures { λ r. ⌜ fitIn r ≡ fitted (inputsOf tolerance (now (instants .entry)) (now (positions .entry)) observer f0) (recording (now (means .entry)) (now (frequencies .entry))) (measuredBy (now (means .entry)) (now (frequencies .entry))) ⌝ }
 {
     let measured = approach_or_middle(means, frequencies);

@@ -1,14 +1,14 @@
 // The residuals of a recording under a shift of its clock, and their sums.
 ghost use mathlib.Core.Path.{_≡_};
 ghost use mathlib.Core.List.{[], _++_, map};
-ghost use Prim.Native.Nat.{ℕ, _+_, _<_, _≤_};
+ghost use Prim.Native.Nat.{_+_, _<_, _≤_};
 ghost use lib.IntN.{pos, natAbs, _-ℤ_, _*ℤ_};
-ghost use lib.ListN.{length, getD, take};
+ghost use lib.ListN.{length, take};
 ghost use Rattle.float.specs.Signs.{Within};
 ghost use Rattle.checks.specs.Limits.{farthestInstant};
 ghost use Rattle.samples.specs.Means.{recording, microsecond};
-ghost use Rattle.orbit.specs.Fitting.{farthestShift, farthestMicros};
-ghost use Rattle.orbit.specs.Table.{Table};
+ghost use Rattle.orbit.specs.Fitting.{Fitting, farthestShift, farthestMicros};
+ghost use Rattle.checks.specs.Passed.{Table};
 ghost use Rattle.orbit.specs.Propagation.{propagated};
 ghost use Rattle.orbit.specs.Residuals.{microseconds, residualAt, residualIn, keep, inputsOf, residuals, residualOf, total, deviation};
 ghost use Rattle.float.specs.Numbers.{minusZero};
@@ -81,7 +81,7 @@ pub(crate) fn collect_residuals(
     shift: f64,
     values: &mut [f64],
 ) -> usize
-    requires { ⌜ Table (now instants) (now positions) × (length (now frequencies) ≡ length (now samples)) × (length (now samples) ≤ length (now values)) × ((k : ℕ) → natAbs (getD (now samples) k (pos 0)) ≤ farthestInstant) × Within farthestShift shift ⌝ }
+    requires { ⌜ Fitting (now instants) (now positions) (now samples) (now frequencies) (now values) × Within farthestShift shift ⌝ }
     ensures { λ r. ⌜ (r ≤ length (now (samples .entry))) × (take r (now (values .exit)) ≡ residuals (residualOf (inputsOf tolerance (now (instants .entry)) (now (positions .entry)) observer f0) shift) (recording (now (samples .entry)) (now (frequencies .entry)))) ⌝ }
 {
     let micros = microseconds_of(shift);

@@ -12,7 +12,6 @@ use Rattle.checks.proofs.Outcomes.{outcome-refused, outcome-answered}
 use Rattle.orbit.specs.Window.{evenTolerance}
 use Rattle.orbit.specs.Closest.{closestInstant}
 use Rattle.orbit.proofs.Offsets.{near-is}
-use Rattle.orbit.proofs.Tables.{table-of}
 use borrow.Author.Needs.{needs}
 use Rattle.orbit.proofs.closest.find_pca_time.Statement.{statement}
 use Rattle.orbit.proofs.closest.find_pca_time.Tie as tie
@@ -35,7 +34,7 @@ closest-at-requires c κs =
     let t = a .instant .0 in
     let h = sym (c .before .before .refuse-closest .ensures) ∙ c .before .if1 .left in
     let near = closest-near (a .instants .now) (a .positions .now) (o .x .0) (o .y .0) (o .z .0) t h in
-    (table-of (a .instants .now) (a .positions .now) (closest-table (a .instants .now) (a .positions .now) (o .x .0) (o .y .0) (o .z .0) t h), subst (λ (z : ℤ). natAbs z ≤ 4000000000000000000) (sym (near-is t near)) near)
+    ((closest-table (a .instants .now) (a .positions .now) (o .x .0) (o .y .0) (o .z .0) t h), subst (λ (z : ℤ). natAbs z ≤ 4000000000000000000) (sym (near-is t near)) near)
 
 returns-2 : tie.Need-returns-2
 unfolding ofBits

@@ -101,7 +101,7 @@ returns c =
     call .finish-fit .ensures
     ∙ ap (finished (try-of s) n) (coarse-is at)
     ∙ fit-is (try-of s) n (centre-of s)
-    ∙ ap (λ (m : ℕ). fitBy (try-of s) m (centre-of s)) (sym (record-length (a .samples .now) (a .frequencies .now) (s .pre .0 .same)))
+    ∙ ap (λ (m : ℕ). fitBy (try-of s) m (centre-of s)) (sym (record-length (a .samples .now) (a .frequencies .now) (s .pre .0 .sampled .same)))
 
 pub fit-about-spec : {M : Type 1} → statement M
 fit-about-spec =

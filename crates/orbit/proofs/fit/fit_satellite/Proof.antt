@@ -15,7 +15,6 @@ use Rattle.orbit.specs.Window.{evenTolerance}
 use Rattle.orbit.specs.Fit.{fitted}
 use Rattle.orbit.specs.Residuals.{inputsOf}
 use Rattle.orbit.proofs.Offsets.{near-is}
-use Rattle.orbit.proofs.Tables.{table-of}
 use borrow.Author.Needs.{needs}
 use Rattle.orbit.proofs.fit.fit_satellite.Statement.{statement}
 use Rattle.orbit.proofs.fit.fit_satellite.Tie as tie
@@ -49,7 +48,7 @@ fit-about-requires c κs =
     let h = sym (none .before .refuse-fit .ensures) ∙ none .if1 .left in
     let t = fit-table (a .instants .now) (a .positions .now) (a .samples .now) (a .frequencies .now) (a .observer .x .0) (a .observer .y .0) (a .observer .z .0) (a .f0 .0) (a .measured .0) h in
     let f = fit-samples (a .instants .now) (a .positions .now) (a .samples .now) (a .frequencies .now) (a .observer .x .0) (a .observer .y .0) (a .observer .z .0) (a .f0 .0) (a .measured .0) h in
-    (record { table = table-of (a .instants .now) (a .positions .now) t; same = f .same; few = f .few; near = f .near; room = f .few }, subst (λ (z : ℤ). natAbs z ≤ 4000000000000000000) (sym (near-is (a .measured .0) (near-of s h))) (near-of s h))
+    (record { table = t; sampled = f; room = f .few }, subst (λ (z : ℤ). natAbs z ≤ 4000000000000000000) (sym (near-is (a .measured .0) (near-of s h))) (near-of s h))
 
 returns-2 : tie.Need-returns-2
 unfolding ofBits

@@ -39,12 +39,8 @@ try-shift-requires c κs =
     let s = c .before .before .before .before .before .before .before in
     let h = s .pre .0 in
     let shift = c .before .shift-at in (
-      h .table,
-      h .same,
-      omega (arith, h .room, at .inv .1),
-      h .near,
+      record { table = h .table; sampled = h .sampled; room = omega (arith, h .room, at .inv .1) },
       subst (Within 20000) (sym (shift .ensures)) (weaken 12301 20000 (shiftAt (s .args .start) (s .args .increment) (at .step)) (omega arith) (stage-within 12000 (s .args .start) (s .args .increment) (at .step) (omega arith) (omega (arith, s .pre .3)) (s .pre .1) (s .pre .2))),
-      h .few,
     )
 
 add-step : tie.Need-add-step Inv-loop μ-loop

@@ -41,10 +41,10 @@ abbrev values-of : tie.After-collect-residuals → List Float
 values-of c = take (c .collect-residuals .result) (c .collect-residuals .last .1 .1 .1 .1 .1 .1 .1 .1 .0)
 
 length-samples : (s : tie.Start) → length (samples-of s) ≡ length (s .args .samples .now)
-length-samples s = record-length (s .args .samples .now) (s .args .frequencies .now) (s .pre .1)
+length-samples s = record-length (s .args .samples .now) (s .args .frequencies .now) (s .pre .0 .sampled .same)
 
 long-enough : (c : tie.After-collect-residuals) → c .collect-residuals .result ≤ length (c .collect-residuals .last .1 .1 .1 .1 .1 .1 .1 .1 .0)
-long-enough c = omega (arith, c .collect-residuals .ensures .0, c .collect-residuals .kept .1 .1 .1 .1 .1 .1 .1 .1 .0, start-of c .pre .2)
+long-enough c = omega (arith, c .collect-residuals .ensures .0, c .collect-residuals .kept .1 .1 .1 .1 .1 .1 .1 .1 .0, start-of c .pre .0 .room)
 
 length-values : (c : tie.After-collect-residuals) → length (values-of c) ≡ c .collect-residuals .result
 length-values c = length-front (c .collect-residuals .last .1 .1 .1 .1 .1 .1 .1 .1 .0) (c .collect-residuals .result) (long-enough c)
@@ -77,7 +77,7 @@ same-length-2 c = search needs
 count-is : (c : tie.After-nearest) → c .nearest .result ≡ nearestOf (pos (c .before .before .before .before .collect-residuals .result))
 count-is c =
     let at = c .before .before .before .before in
-    c .nearest .ensures ∙ ap nearestOf (toZ-pos w64 (at .collect-residuals .result) (omega (arith, at .collect-residuals .ensures .0, start-of at .pre .5)))
+    c .nearest .ensures ∙ ap nearestOf (toZ-pos w64 (at .collect-residuals .result) (omega (arith, at .collect-residuals .ensures .0, start-of at .pre .0 .sampled .few)))
 
 offset-is : (c : tie.After-sum-of) → div binary64 (c .sum-of .result) (c .before .before .nearest .result) ≡ meanOver (values-of (c .before .before .before .before .before .before))
 offset-is c =

@@ -8,7 +8,7 @@ use Rattle.checks.proofs.Passed.{samples-pass}
 use Rattle.samples.specs.Approach.{approachOf, approachIn}
 use Rattle.orbit.specs.Passes.{approachOr, middleOf, measuredBy}
 use Rattle.orbit.proofs.Offsets.{back, near-is}
-use Rattle.orbit.proofs.Middles.{measured-near, passed-samples}
+use Rattle.orbit.proofs.Middles.{measured-near}
 use borrow.Author.Needs.{needs}
 use Rattle.orbit.proofs.passes.approach_or_middle.Statement.{statement}
 use Rattle.orbit.proofs.passes.approach_or_middle.Tie as tie
@@ -18,7 +18,7 @@ found : (c : tie.After-estimate-measured-pca-time) → let a = c .before .before
 found c =
     let s = c .before .before in
     let a = s .args in
-    c .estimate-measured-pca-time .ensures ∙ ap (λ (n : ℕ). unlessRefused n (approachOf (a .samples .now) (a .frequencies .now))) (samples-pass (a .samples .now) (a .frequencies .now) (passed-samples (a .samples .now) (a .frequencies .now) (s .pre)))
+    c .estimate-measured-pca-time .ensures ∙ ap (λ (n : ℕ). unlessRefused n (approachOf (a .samples .now) (a .frequencies .now))) (samples-pass (a .samples .now) (a .frequencies .now) (s .pre))
 
 -- an instant that is the definition's is near, and is the machine's
 measured : (s : tie.Start) (t : ℤ) → t ≡ measuredBy (s .args .samples .now) (s .args .frequencies .now) → (back t ≡ measuredBy (s .args .samples .now) (s .args .frequencies .now)) × (natAbs (back t) ≤ 4000000000000000000)

@@ -23,7 +23,7 @@ fit-about-requires c κs =
     let s = at .before .before .before in
     let h = s .pre .1 in
     let near = at .approach-or-middle .ensures .1 in
-    (record { table = s .pre .0; same = h .same; few = h .few; near = h .near; room = h .few }, subst (λ (z : ℤ). natAbs z ≤ 4000000000000000000) (sym (near-is (at .approach-or-middle .result) near)) near)
+    (record { table = s .pre .0; sampled = h; room = h .few }, subst (λ (z : ℤ). natAbs z ≤ 4000000000000000000) (sym (near-is (at .approach-or-middle .result) near)) near)
 
 returns : tie.Need-returns
 returns c =

@@ -8,18 +8,17 @@ use lib.IntN.{ℤ}
 use lib.ListN.{length, take, length-map}
 use lib.Ieee.{Float, ofBits}
 use Rattle.checks.specs.Outcome.{Outcome, refused, answered, outcome, area, written}
-use Rattle.checks.proofs.Passed.{Samples, pass-table, pass-samples, pass-areas, means-pass}
+use Rattle.checks.proofs.Passed.{pass-table, pass-samples, pass-areas, means-pass}
+use Rattle.checks.specs.Passed.{Samples}
 use Rattle.checks.proofs.Outcomes.{unless-refused, unless-none, area-refused, area-written}
 use Rattle.samples.specs.Means.{Sample, recording, means, instants, frequencies, meansRefusal, meansCount, meansInstants, meansFrequencies, countOf}
 use Rattle.samples.proofs.Seconds.{few-means}
 use Rattle.samples.proofs.Recordings.{record-length}
 use Rattle.orbit.specs.declared.fit.Report.{Report}
-use Rattle.orbit.specs.Fitting.{Sampled}
 use Rattle.orbit.specs.Window.{evenTolerance}
 use Rattle.orbit.specs.Fit.{fitted, fitIn}
 use Rattle.orbit.specs.Residuals.{Inputs, inputsOf}
 use Rattle.orbit.specs.Passes.{measuredBy, measuredOf, passOutcome, passRefusal}
-use Rattle.orbit.proofs.Tables.{table-of}
 use Rattle.orbit.proofs.Trials.{length-front}
 use Rattle.orbit.proofs.Middles.{by-parts, means-sampled, front, same-count, not-refused}
 use borrow.Author.Needs.{needs}
@@ -94,8 +93,8 @@ module _ (c : tie.After-downsample-data) (n : ℕ) (is : n ≡ length (means-of 
   few : n ≤ length (start-of c .args .samples .now)
   few = let u = few-means (samples-of (start-of c)) in let e = record-length (start-of c .args .samples .now) (start-of c .args .frequencies .now) (passed c .same) in omega (arith, u, e, is)
 
-  front-sampled : Sampled (take n (instant-area c)) (take n (frequency-area c))
-  front-sampled = subst (λ (l : List ℤ). Sampled l (take n (frequency-area c))) (sym instants-front) (subst (Sampled (instants (means-of (start-of c)))) (sym frequencies-front) (means-sampled (start-of c .args .samples .now) (start-of c .args .frequencies .now) (passed c)))
+  front-sampled : Samples (take n (instant-area c)) (take n (frequency-area c))
+  front-sampled = subst (λ (l : List ℤ). Samples l (take n (frequency-area c))) (sym instants-front) (subst (Samples (instants (means-of (start-of c)))) (sym frequencies-front) (means-sampled (start-of c .args .samples .now) (start-of c .args .frequencies .now) (passed c)))
 
   front-fitted : (i : Inputs) → fitted i (recording (take n (instant-area c)) (take n (frequency-area c))) (measuredBy (take n (instant-area c)) (take n (frequency-area c))) ≡ passOutcome i (samples-of (start-of c))
   front-fitted i =
@@ -158,7 +157,7 @@ fit-means-requires c κs =
     let means = c .before .before .before in
     let at = sampled-of means in
     let a = start-of at .args in
-    (table-of (a .instants .now) (a .positions .now) (pass-table (a .instants .now) (a .positions .now) (a .samples .now) (a .frequencies .now) (a .observer .x .0) (a .observer .y .0) (a .observer .z .0) (a .f0 .0) (a .mean-instants .now) (a .mean-frequencies .now) (none-failed at)), front-sampled at (means .means .given .0 .0) (told-is means))
+    ((pass-table (a .instants .now) (a .positions .now) (a .samples .now) (a .frequencies .now) (a .observer .x .0) (a .observer .y .0) (a .observer .z .0) (a .f0 .0) (a .mean-instants .now) (a .mean-frequencies .now) (none-failed at)), front-sampled at (means .means .given .0 .0) (told-is means))
 
 enum-known-means-2 : tie.Need-enum-known-means-2
 enum-known-means-2 c = search needs

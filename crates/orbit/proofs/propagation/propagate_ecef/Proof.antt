@@ -9,7 +9,6 @@ use Rattle.checks.proofs.Outcomes.{unless-refused, unless-none}
 use Rattle.orbit.specs.Window.{evenTolerance}
 use Rattle.orbit.specs.Propagation.{Motion, propagated}
 use Rattle.orbit.proofs.Offsets.{near-is}
-use Rattle.orbit.proofs.Tables.{table-of}
 use borrow.Author.Needs.{needs}
 use Rattle.orbit.proofs.propagation.propagate_ecef.Statement.{statement}
 use Rattle.orbit.proofs.propagation.propagate_ecef.Tie as tie
@@ -27,7 +26,7 @@ returns c =
 propagate-at-requires : tie.Need-propagate-at-requires
 propagate-at-requires c κs =
     let a = c .before .before .before .before .args in
-    table-of (a .instants .now) (a .positions .now) (propagation-table (a .instants .now) (a .positions .now) (a .instant .0) (sym (c .before .before .refuse-propagation .ensures) ∙ c .before .if1 .left))
+    (propagation-table (a .instants .now) (a .positions .now) (a .instant .0) (sym (c .before .before .refuse-propagation .ensures) ∙ c .before .if1 .left))
 
 returns-2 : tie.Need-returns-2
 unfolding ofBits

@@ -41,10 +41,10 @@ shared-slice-copy-out-moved-earlier c = search needs
 
 -- the samples are near and the shift is small
 near-of : (s : tie.Start Inv-loop μ-loop) (k : ℕ) → natAbs (getD (s .args .samples .now) k (pos 0)) ≤ 4000000000000000000
-near-of s k = s .pre .3 k
+near-of s k = s .pre .0 .sampled .near k
 
 small-of : (s : tie.Start Inv-loop μ-loop) → natAbs (microseconds (s .args .shift)) ≤ 20000000000
-small-of s = microseconds-small (s .args .shift) (s .pre .4)
+small-of s = microseconds-small (s .args .shift) (s .pre .1)
 
 moved-earlier-requires : tie.Need-moved-earlier-requires Inv-loop μ-loop
 moved-earlier-requires c κs =
@@ -63,7 +63,7 @@ push-residual-requires : tie.Need-push-residual-requires Inv-loop μ-loop
 push-residual-requires c κs =
     let at = c .before .before .before .before .before .loop in
     let s = c .before .before .before .before .before .before .before .before .before .before in
-    (s .pre .0, omega (arith, at .inv .1, at .inv .3, s .pre .2))
+    (s .pre .0 .table, omega (arith, at .inv .1, at .inv .3, s .pre .0 .room))
 
 add-i : tie.Need-add-i Inv-loop μ-loop
 add-i c = search needs
@@ -91,7 +91,7 @@ loop-again c =
       refl,
       call .kept .1 .1 .1 .1 .1 .1 .1 .0 ∙ at .inv .3,
       at .inv .4,
-      ap (λ (l : List Float). l ++ residuals f (recording (drop (at .i + 1) ss) (drop (at .i + 1) fs))) pushed ∙ residuals-step f ss fs (at .i) (take (at .count) (at .values)) (omega arith) (omega (arith, s .pre .1)) ∙ at .inv .5,
+      ap (λ (l : List Float). l ++ residuals f (recording (drop (at .i + 1) ss) (drop (at .i + 1) fs))) pushed ∙ residuals-step f ss fs (at .i) (take (at .count) (at .values)) (omega arith) (omega (arith, s .pre .0 .sampled .same)) ∙ at .inv .5,
     )
 
 same-length : tie.Need-same-length Inv-loop μ-loop

@@ -1,0 +1,27 @@
+-- What holds of inputs that pass their checks: the inner functions rely on it.
+use Prim.Native.Nat.{ℕ, _+_, _*_, _≤_, _<_}
+use mathlib.Core.Path.{_≡_}
+use mathlib.Core.Bool.{false}
+use mathlib.Core.List.{List}
+use lib.IntN.{ℤ, pos, natAbs}
+use lib.Signed.{_<ℤ_}
+use lib.Ieee.{Float}
+use lib.ListN.{length, getD}
+use Rattle.checks.specs.Limits.{leastCoordinates, mostCoordinates, axes, mostSamples, farthestInstant}
+use Rattle.checks.specs.Checks.{unrising}
+
+-- the coordinates: how many, in which order and how far from 1970 (checks 1, 4, 5)
+pub record Table (instants : List ℤ) (positions : List Float) : Type 0 where
+  pub enough : leastCoordinates ≤ length instants
+  pub few : length instants ≤ mostCoordinates
+  pub three : length positions ≡ axes * length instants
+  pub rising : (k : ℕ) → k + 1 < length instants → getD instants k (pos 0) <ℤ getD instants (k + 1) (pos 0)
+  pub near : (k : ℕ) → natAbs (getD instants k (pos 0)) ≤ farthestInstant
+  pub risen : unrising instants ≡ false
+
+-- the samples: how many and how far from 1970 (checks 2, 4)
+pub record Samples (samples : List ℤ) (frequencies : List Float) : Type 0 where
+  pub some : 0 < length samples
+  pub few : length samples ≤ mostSamples
+  pub same : length frequencies ≡ length samples
+  pub near : (k : ℕ) → natAbs (getD samples k (pos 0)) ≤ farthestInstant
