@@ -1,11 +1,11 @@
 -- One column of the elimination is one step of the definition, and the columns from i on end where the whole inversion does. Assumes nothing.
-use mathlib.Core.Path.{_≡_, refl, ap, _∙_, sym}
+use mathlib.Core.Path.{_≡_, ap, _∙_, sym}
 use mathlib.Core.Bool.{Bool, true, false, not}
-use Prim.Native.Nat.{ℕ, zero, suc, _+_, _-_, _≤_, _<_}
+use Prim.Native.Nat.{ℕ, suc, _+_, _-_, _≤_, _<_}
 use native.Mathlib.Omega.{arith}
 use lib.Ieee.{Float, lt}
 use Rattle.float.specs.Signs.{magnitudeOf}
-use Rattle.chebyshev.specs.Inverse.{Row, Matrix, Outcome, singular, inverse, cell, exchanged, leastPivot, tooSmall, pivotRow, scaledAt, column, clearedBy, clearedColumn, Cleared, columnsFrom}
+use Rattle.chebyshev.specs.Inverse.{Row, Matrix, singular, inverse, cell, exchanged, leastPivot, tooSmall, pivotRow, scaledAt, column, clearedBy, clearedColumn, Cleared, columnsFrom}
 
 -- the pivot's test, by the row that was found and its magnitude
 pub small-is : (i j : ℕ) (t : Matrix) (x : Float) (b : Bool) → j ≡ pivotRow i t → x ≡ magnitudeOf (cell t j i) → lt x leastPivot ≡ b → tooSmall i t ≡ b

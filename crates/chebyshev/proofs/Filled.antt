@@ -1,6 +1,6 @@
 -- A loop that writes an array from the left: once every index below n holds f of that index, the array is the list of f. Assumes nothing.
 use mathlib.Core.Path.{_≡_, refl, sym, ap, _∙_, subst}
-use mathlib.Core.List.{List, [], _∷_}
+use mathlib.Core.List.{List}
 use mathlib.Core.Logic.{_⊎_, inl, inr}
 use Prim.Native.Nat.{ℕ, zero, suc, _+_, _≤_, _<_}
 use native.Mathlib.Nat.{add-zero, lt-irrefl, eq-or-lt-of-le, le-of-suc-le-suc}

@@ -1,6 +1,5 @@
 -- The ideal matrix has an inverse: its inversion, worked out, is not refused. Assumes nothing.
 use mathlib.Core.Path.{_≡_, refl}
-use Prim.Native.Nat.{ℕ}
 use lib.Ieee.{ofBits, add, sub, mul, div, lt, ofInt, neg}
 use Rattle.float.specs.Signs.{magnitudeOf}
 use Rattle.chebyshev.specs.Lists.{listOf}

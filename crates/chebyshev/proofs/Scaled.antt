@@ -1,7 +1,7 @@
 -- Sums by columns: adding column after column, each times its value, makes of every row the weighted sum of that row, term by term in the same
 -- order. Assumes nothing.
-use mathlib.Core.Path.{_≡_, refl, sym, ap, _∙_, subst}
-use mathlib.Core.List.{List, []}
+use mathlib.Core.Path.{_≡_, sym, ap, _∙_}
+use mathlib.Core.List.{[]}
 use Prim.Native.Nat.{ℕ, _+_, _≤_, _<_}
 use native.Mathlib.Omega.{arith}
 use lib.ListN.{length, getD, drop, replicate}

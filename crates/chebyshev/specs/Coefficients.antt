@@ -1,6 +1,5 @@
 -- The coefficients of a Chebyshev sum through ten values at ten nodes, by the inverse of the nodes' matrix.
-use Prim.Native.Nat.{ℕ}
-use mathlib.Core.List.{List, [], _∷_}
+use mathlib.Core.List.{[]}
 use lib.ListN.{getD}
 use lib.Ieee.{Float, nan, binary64, add, mul}
 use Rattle.chebyshev.specs.Lists.{listOf}

@@ -6,7 +6,7 @@ use lib.Ieee.{Float, fin, binary64, add, mul, div}
 use Rattle.float.specs.Numbers.{two, nine}
 use Rattle.float.specs.Conversions.{nearestOf}
 use Rattle.chebyshev.specs.Lists.{listOf}
-use Rattle.chebyshev.specs.Recurrence.{rounded, polynomials, terms}
+use Rattle.chebyshev.specs.Recurrence.{rounded, polynomials}
 use Rattle.chebyshev.specs.Inverse.{Matrix, column, order}
 
 -- −1.0

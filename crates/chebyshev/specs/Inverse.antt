@@ -6,8 +6,7 @@ use mathlib.Core.Bool.{Bool, true, false, not}
 use mathlib.Core.List.{List, [], _∷_}
 use lib.Dec.{eqb}
 use lib.ListN.{length, getD, set, replicate}
-use lib.IntN.{pos}
-use lib.Ieee.{Float, nan, fin, binary64, sub, mul, div, lt, ofBits}
+use lib.Ieee.{Float, nan, binary64, sub, mul, div, lt, ofBits}
 use Rattle.float.specs.Numbers.{nought, one}
 use Rattle.float.specs.Signs.{magnitudeOf}
 use Rattle.chebyshev.specs.declared.inverse.Inverse.{Inverse}

@@ -2,7 +2,7 @@
 ghost use mathlib.Core.Path.{_≡_};
 ghost use Prim.Native.Nat.{_<_};
 ghost use lib.ListN.{length};
-ghost use Rattle.chebyshev.specs.Inverse.{exchanged, divided, reduced, pivotRow, tooSmall, scaledAt, column, clearedBy, Cleared, RowPut, flat, inverted, rowsOf, refusalOf, answerOf};
+ghost use Rattle.chebyshev.specs.Inverse.{exchanged, divided, reduced, pivotRow, scaledAt, column, clearedBy, Cleared, RowPut, flat, inverted, rowsOf, refusalOf, answerOf};
 use float::magnitude;
 
 // Rows i and j exchanged, by value.

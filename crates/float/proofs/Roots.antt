@@ -8,8 +8,8 @@ use mathlib.Core.Bool.{Bool, true, false, not, cond, true≢false}
 use lib.Dec.{T, leb, ltb, eqb, leb→le, ltb→lt, nleb→lt, lit≤, not-T}
 use lib.Count.{leadingZeros, leading-top}
 use lib.IntN.{ℤ, pos}
-use lib.Pow.{pow-add, pow-pos, pow-mono, pow-lt, shl-lt}
-use lib.Ieee.{Float, nan, inf, fin, Format, binary64, prec, emax, low, up, down, odd, round, ofFields, ofBits, toBits, nanBits, isNan, fits, ne, div}
+use lib.Pow.{pow-add, pow-pos, pow-mono, shl-lt}
+use lib.Ieee.{Float, nan, inf, fin, Format, binary64, low, up, down, odd, ofFields, ofBits, toBits, nanBits, isNan, fits, ne, div}
 use lib.Ieee.Bits.{ofBits-toBits, nanBits-above}
 use lib.Ieee.Compare.{differs-from-itself}
 use lib.Ieee.Fits.{down-pos}

@@ -1,14 +1,13 @@
 -- The whole part of a double by its bits. Assumes nothing.
 use mathlib.Core.Path.{_≡_, refl, sym, ap, _∙_, subst}
-use mathlib.Core.Logic.{_⊎_, inl, inr}
 use Prim.Native.Nat.{ℕ, zero, suc, _+_, _-_, _*_, _/_, _%_, _^_, _≤_, _<_, min}
-use native.Mathlib.Nat.{le-trans, le-of-eq, lt-of-lt-of-le, lt-of-le-of-lt, mul-assoc, mul-one, mul-le-mul-right, div-one, div-eq-of-lt, mul-div-mul-right, mul-div-cancel, div-le-self, eq-or-lt-of-le, mul-le-mul, zero-add}
+use native.Mathlib.Nat.{le-trans, lt-of-lt-of-le, mul-assoc, div-eq-of-lt, mul-div-mul-right, mul-div-cancel, div-le-self, mul-le-mul, zero-add}
 use native.Mathlib.Omega.{arith}
 use mathlib.Core.Bool.{Bool, true, false, not, cond, true≢false, false≢true}
-use lib.Dec.{T, ltb, leb, eqb, eqb→eq, not-T, lit≤}
-use lib.IntN.{ℤ, pos, negsuc, negℤ, _-ℤ_}
+use lib.Dec.{T, eqb, eqb→eq, not-T, lit≤}
+use lib.IntN.{pos, negsuc, negℤ, _-ℤ_}
 use lib.Pow.{pow-add, pow-pos, pow-mono, shl-lt}
-use lib.Ieee.{Float, nan, inf, fin, Format, binary64, up, down, odd, ofFields, toSigned, isNan, toBits, fits, ne}
+use lib.Ieee.{Float, nan, inf, fin, binary64, up, down, odd, ofFields, toSigned, isNan, toBits, fits, ne}
 use lib.Ieee.Bits.{cond-no, ofBits-toBits}
 use lib.Ieee.Compare.{differs-from-itself}
 use Rattle.float.proofs.Patterns.{unsigned, above}

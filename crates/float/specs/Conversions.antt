@@ -1,7 +1,7 @@
 -- `as f64` of a whole number and `as i64` of a double.
 use Prim.Native.Nat.{ℕ, _*_, _/_, min}
 use lib.IntN.{ℤ, pos, negℤ}
-use mathlib.Core.Bool.{Bool, true, false}
+use mathlib.Core.Bool.{true, false}
 use lib.Ieee.{Float, nan, inf, fin, binary64, up, down, ofInt}
 
 -- IEEE 754's conversion from an integer: the nearest double, ties to even

@@ -1,14 +1,14 @@
 -- The predicted instant is the measured one moved by at most 10,000 s, so the centre of the search is at most 10,001 s: in milliseconds the difference is that
 -- offset turned round. Assumes nothing.
-use mathlib.Core.Path.{_≡_, refl, sym, ap, ap₂, _∙_, subst}
+use mathlib.Core.Path.{_≡_, refl, sym, ap, _∙_, subst}
 use mathlib.Core.List.{List}
-use Prim.Native.Nat.{ℕ, zero, suc, _+_, _*_, _/_, _≤_, _<_}
+use Prim.Native.Nat.{ℕ, zero, suc, _+_, _*_, _/_, _≤_}
 use native.Mathlib.Omega.{arith}
 use lib.IntN.{ℤ, pos, negsuc, negℤ, natAbs, _+ℤ_, _-ℤ_, _*ℤ_, +ℤ-assoc, +ℤ-invr, +ℤ-idl, negℤ-+ℤ}
 use lib.Signed.{mag, quotZ}
-use lib.Ieee.{Float, binary64, div}
+use lib.Ieee.{Float, div}
 use Rattle.units.specs.declared.Observer.{Observer}
-use Rattle.float.specs.Signs.{Within, AtLeast}
+use Rattle.float.specs.Signs.{Within}
 use Rattle.float.specs.Conversions.{nearestOf}
 use Rattle.float.proofs.Bounds.{div-within, nearest-within}
 use Rattle.samples.specs.Approach.{gapOf, thousand, millisecond}

@@ -1,8 +1,8 @@
 -- The stages as the code runs them end where the search of the whole list does; the centre and so every shift is small. Assumes nothing.
-use mathlib.Core.Path.{_≡_, refl, sym, ap, ap₂, _∙_, subst}
+use mathlib.Core.Path.{_≡_, refl, sym, ap, _∙_, subst}
 use mathlib.Core.Bool.{Bool, true, false, cond}
-use mathlib.Core.List.{List, [], _∷_, _++_, map, map-append}
-use Prim.Native.Nat.{ℕ, zero, suc, _+_, _*_, _/_, _≤_, _<_}
+use mathlib.Core.List.{List, [], _++_, map, map-append}
+use Prim.Native.Nat.{ℕ, _+_, _≤_}
 use native.Mathlib.Omega.{arith}
 use lib.Dec.{T}
 use lib.IntN.{ℤ}
@@ -10,13 +10,12 @@ use lib.ListN.{length}
 use lib.Ieee.{Float, binary64, sub, lt}
 use Rattle.float.specs.Signs.{Within, magnitudeOf}
 use Rattle.float.proofs.Bounds.{sub-within}
-use Rattle.checks.specs.Outcome.{Outcome, refused, answered}
+use Rattle.checks.specs.Outcome.{refused, answered}
 use Rattle.float.specs.Numbers.{nought, largestFinite}
 use Rattle.orbit.specs.declared.fit.LeastSoFar.{LeastSoFar}
-use Rattle.orbit.specs.declared.fit.Report.{Report}
 use Rattle.orbit.specs.Fitting.{Fitting}
-use Rattle.orbit.specs.Fit.{Trial, Best, noneYet, found, search, firstLeast, five, fifteen, tenth, twentieth, thousandth, hundredThousandth, shiftAt, shiftsFrom, around, coarse, fine, micro, further, report, reportOf, fitBy}
-use Rattle.orbit.specs.State.{stateOf, state, update, updates, stageFrom, reportFrom, finished}
+use Rattle.orbit.specs.Fit.{Trial, Best, noneYet, found, search, firstLeast, five, fifteen, tenth, twentieth, thousandth, hundredThousandth, shiftAt, shiftsFrom, around, coarse, fine, micro, report, reportOf, fitBy}
+use Rattle.orbit.specs.State.{stateOf, state, updates, stageFrom, reportFrom, finished}
 use Rattle.orbit.proofs.Shifts.{weaken, stage-within}
 use Rattle.orbit.proofs.Updates.{state-search, updates-append, Below, below-search, updates-within}
 use Rattle.orbit.proofs.FirstLeast.{still-found}

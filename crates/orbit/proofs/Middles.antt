@@ -1,8 +1,8 @@
 -- The measured approach of samples, or else their middle, is one of their instants; the means of a recording are samples that pass their checks. Assumes nothing.
 use mathlib.Core.Path.{_≡_, refl, sym, ap, ap₂, _∙_, subst}
 use mathlib.Core.Bool.{Bool, true, false, cond}
-use mathlib.Core.List.{List, [], _∷_, _++_, map}
-use Prim.Native.Nat.{ℕ, zero, suc, _+_, _/_, _≤_, _<_}
+use mathlib.Core.List.{List, [], _∷_, map}
+use Prim.Native.Nat.{ℕ, _/_, _≤_}
 use native.Mathlib.Omega.{arith}
 use lib.IntN.{ℤ, pos, natAbs}
 use lib.ListN.{length, getD, take, drop, length-map}
@@ -10,7 +10,7 @@ use lib.Seq.{take-append-seam}
 use lib.Ieee.{Float, lt}
 use Rattle.checks.specs.Outcome.{Outcome, refused, answered, written}
 use Rattle.samples.specs.Means.{Sample, recording, means, instants, frequencies}
-use Rattle.samples.specs.Approach.{noFloor, leastSlope, approachOf}
+use Rattle.samples.specs.Approach.{noFloor, leastSlope}
 use Rattle.samples.proofs.Seconds.{some-means, few-means}
 use Rattle.samples.proofs.OwnSeconds.{Limited, limited-means}
 use Rattle.samples.proofs.Recordings.{record-length, record-instants}

@@ -1,9 +1,9 @@
 -- The gaps of a window, one for each step of the search for a wide one; and a model by its parts, whether or not its nodes have an inverse.
 -- Assumes nothing.
-use mathlib.Core.Path.{_≡_, refl, sym, ap, _∙_}
-use mathlib.Core.Bool.{Bool, true, false, _||_, cond}
+use mathlib.Core.Path.{_≡_, sym, ap, _∙_}
+use mathlib.Core.Bool.{Bool, true, false, cond}
 use mathlib.Core.List.{List}
-use Prim.Native.Nat.{ℕ, zero, suc, _+_, _-_, _≤_, _<_}
+use Prim.Native.Nat.{ℕ, suc, _+_, _-_, _≤_, _<_}
 use native.Mathlib.Omega.{arith}
 use lib.ListN.{getD}
 use lib.Ieee.{Float, nan}
@@ -12,7 +12,7 @@ use Rattle.chebyshev.specs.Inverse.{Row, inverted, rowsOf, refusalOf, singular,
 use Rattle.chebyshev.specs.Inverse.{Outcome as Inversion}
 use Rattle.chebyshev.specs.Ideal.{idealMatrix}
 use Rattle.checks.specs.Outcome.{refused, answered}
-use Rattle.orbit.specs.Propagation.{Motion, motionAt, evaluated}
+use Rattle.orbit.specs.Propagation.{motionAt, evaluated}
 use Rattle.orbit.specs.declared.window.Model.{Model}
 use Rattle.orbit.specs.Window.{wideGap, wideFrom, uneven, windowSeconds, nodeMatrix, coefficients, inversionOf, modelOr, modelAt, blankModel, modelAnswer}
 

@@ -1,14 +1,14 @@
 -- The last coordinate at or before an instant: in a list that rises it is the one that halving ends at. Assumes nothing.
 use mathlib.Core.Path.{_≡_, refl, sym, ap, _∙_, subst}
 use mathlib.Core.Logic.{_⊎_, inl, inr}
-use mathlib.Core.Bool.{Bool, true, false, not, _||_, cond, true≢false, false≢true}
+use mathlib.Core.Bool.{Bool, true, false, not, _||_, cond, true≢false}
 use mathlib.Core.List.{List, [], _∷_}
 use Prim.Native.Nat.{ℕ, zero, suc, _+_, _-_, _/_, _≤_, _<_}
-use native.Mathlib.Nat.{eq-or-lt-of-le, le-of-suc-le-suc, add-zero, le-of-lt}
+use native.Mathlib.Nat.{eq-or-lt-of-le, add-zero, le-of-lt}
 use native.Mathlib.Omega.{arith}
-use lib.Dec.{T, not-T, ltb→lt, le→leb, nltb→le, lt→ltb, leb→le}
+use lib.Dec.{T, ltb→lt, le→leb}
 use lib.IntN.{ℤ, pos, negsuc}
-use lib.Signed.{ltZ, leZ, _<ℤ_, _≤ℤ_, ltZ-yes, ltZ-no, <ℤ-≤ℤ-trans, <ℤ-irrefl}
+use lib.Signed.{ltZ, leZ, _<ℤ_, _≤ℤ_, ltZ-yes, <ℤ-≤ℤ-trans}
 use lib.ListN.{length, getD}
 use Rattle.checks.specs.Checks.{unrising}
 use Rattle.orbit.specs.Window.{lastFrom, lastBefore}

@@ -1,17 +1,16 @@
 -- A shift of at most 20,000 s moves a checked instant to one that fits: in microseconds it is at most 2e10. Assumes nothing.
-use mathlib.Core.Path.{_≡_, sym, ap, ap₂, _∙_}
-use Prim.Native.Nat.{ℕ, suc, _+_, _*_, _≤_, _<_}
+use Prim.Native.Nat.{ℕ, suc, _+_, _*_, _≤_}
 use native.Mathlib.Omega.{arith}
 use native.Mathlib.Nat.{le-trans, mul-le-mul-right}
 use lib.IntN.{ℤ, pos, natAbs, _-ℤ_, _*ℤ_}
 use lib.Signed.{mag}
-use lib.Ieee.{Float, nan, inf, fin, down, binary64, add, sub, mul}
+use lib.Ieee.{Float, nan, inf, fin, down, binary64, add, mul}
 use mir.Syntax.{w64}
 use mir.Val.{SFits}
 use Rattle.float.specs.Signs.{Within}
 use Rattle.float.proofs.SignedBounds.{mag-minus, mag-times, mag-natAbs}
 use Rattle.float.specs.Conversions.{nearestOf}
-use Rattle.float.proofs.Bounds.{add-within, sub-within, mul-within, nearest-within, truncated-within}
+use Rattle.float.proofs.Bounds.{add-within, mul-within, nearest-within, truncated-within}
 use Rattle.orbit.specs.Fit.{shiftAt}
 use Rattle.orbit.specs.Residuals.{million, microseconds}
 

@@ -2,18 +2,16 @@
 -- before. By induction on the lists. Assumes nothing.
 use mathlib.Core.Path.{_≡_, refl, sym, _∙_, ap, subst}
 use mathlib.Core.Logic.{_≢_}
-use mathlib.Core.Bool.{Bool, true, false, not, cond, _&&_}
-use mathlib.Core.List.{List, [], _∷_, _++_, map, append-nil}
+use mathlib.Core.Bool.{Bool, true, false, cond}
+use mathlib.Core.List.{List, [], _++_, map, append-nil}
 use Prim.Native.Nat.{ℕ, zero, suc, _+_, _<_}
 use native.Mathlib.Omega.{arith}
-use lib.Dec.{T}
 use lib.IntN.{pos}
 use lib.ListN.{length, getD, length-append}
 use lib.Ieee.{Float, nan, fin, binary64, sub, lt}
-use lib.Ieee.Fits.{and-r}
 use Rattle.float.specs.Signs.{magnitudeOf}
-use Rattle.float.specs.Numbers.{nought, largestFinite}
-use Rattle.orbit.specs.Fit.{Trial, Best, noneYet, found, later, search, firstLeast, five, fifteen, tenth, twentieth, thousandth, hundredThousandth, shiftAt, shiftsFrom, around, coarse, fine, micro, further, coarseFine, shifts, reportOf, fitBy}
+use Rattle.float.specs.Numbers.{nought}
+use Rattle.orbit.specs.Fit.{Trial, Best, noneYet, found, search, firstLeast, five, fifteen, tenth, twentieth, thousandth, hundredThousandth, shiftAt, shiftsFrom, around, coarse, fine, micro, further, coarseFine, shifts, reportOf, fitBy}
 use Rattle.orbit.proofs.FirstLeast.{Wins, After, place, first-least, none-found, next-stage, still-found, NoCoarse}
 
 -- ---- a stage

@@ -1,20 +1,20 @@
 -- The trial of a shift by its residuals, and what it leaves of the least so far: by whether enough residuals are left, and whether their RMSE is
 -- smaller. Assumes nothing.
-use mathlib.Core.Path.{_≡_, refl, sym, ap, ap₂, _∙_, subst}
+use mathlib.Core.Path.{_≡_, refl, sym, ap, ap₂, _∙_}
 use mathlib.Core.Bool.{Bool, true, false, cond, _&&_}
-use mathlib.Core.List.{List, [], _∷_, _++_, map}
-use Prim.Native.Nat.{ℕ, zero, suc, _+_, _-_, _/_, _≤_, _<_}
+use mathlib.Core.List.{List, map}
+use Prim.Native.Nat.{ℕ, _/_, _≤_, _<_}
 use native.Mathlib.Omega.{arith}
 use borrow.Author.Tests.{lt-ltb, le-ltb}
 use lib.Dec.{ltb}
 use lib.IntN.{pos}
-use lib.ListN.{length, take, length-map, length-take}
+use lib.ListN.{length, take, length-take}
 use lib.Ieee.{Float, binary64, div, lt}
 use Rattle.float.specs.Root.{root}
 use Rattle.float.specs.Conversions.{nearestOf}
 use Rattle.samples.specs.Means.{Sample}
 use Rattle.orbit.specs.declared.fit.LeastSoFar.{LeastSoFar}
-use Rattle.orbit.specs.Fit.{Trial, trial}
+use Rattle.orbit.specs.Fit.{trial}
 use Rattle.orbit.specs.Residuals.{Residual, residuals, total, meanOver, deviation}
 use Rattle.float.specs.Numbers.{minusZero}
 use Rattle.orbit.specs.State.{stateOf, update}

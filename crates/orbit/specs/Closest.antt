@@ -1,6 +1,6 @@
 -- `find_pca_time`: the least squared range by minutes, then by seconds. Offsets are whole seconds, the instants nanoseconds.
 use Prim.Native.Nat.{ℕ, zero, suc, _+_, _*_}
-use mathlib.Core.Bool.{Bool, true, false, cond}
+use mathlib.Core.Bool.{cond}
 use mathlib.Core.List.{List}
 use lib.IntN.{ℤ, pos, negℤ, _+ℤ_, _*ℤ_}
 use lib.Ieee.{Float, binary64, add, sub, mul, lt}

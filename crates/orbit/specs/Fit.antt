@@ -1,6 +1,6 @@
 -- `fit_satellite`: the shift whose residuals have the first least RMSE. Instants are nanoseconds, shifts seconds, frequencies hertz.
 use Prim.Native.Nat.{ℕ, zero, suc, _+_, _/_}
-use mathlib.Core.Bool.{Bool, true, false, cond, _&&_}
+use mathlib.Core.Bool.{Bool, false, cond, _&&_}
 use mathlib.Core.List.{List, [], _∷_, _++_, map}
 use lib.Dec.{ltb}
 use lib.IntN.{ℤ, pos, negsuc}

@@ -1,5 +1,5 @@
 -- The pass entry: "Checks, means, measured approach or else the mean at index count/2, fit on the means".
-use Prim.Native.Nat.{ℕ, zero, suc, _/_}
+use Prim.Native.Nat.{ℕ, _/_}
 use mathlib.Core.List.{List}
 use lib.IntN.{ℤ, pos}
 use lib.ListN.{length, getD}

@@ -1,5 +1,4 @@
 -- `evaluate` and `propagate_ecef`: position in metres and velocity in metres for each second at an instant.
-use Prim.Native.Nat.{ℕ}
 use mathlib.Core.List.{List}
 use lib.IntN.{ℤ}
 use lib.Ieee.{Float, binary64, sub, mul, div}

@@ -1,5 +1,4 @@
 -- The residuals of a recording under a shift of its clock, and their means. Instants are nanoseconds, shifts seconds, frequencies hertz.
-use Prim.Native.Nat.{ℕ}
 use mathlib.Core.Bool.{false}
 use mathlib.Core.List.{List, [], _∷_}
 use lib.IntN.{ℤ, pos, _-ℤ_, _*ℤ_}

@@ -1,7 +1,7 @@
 -- `get_chebyshev_model`: the window of ten coordinates about an instant, and its Chebyshev model. Instants are nanoseconds, times seconds,
 -- positions metres, three doubles each.
 use Prim.Native.Nat.{ℕ, zero, suc, _+_, _-_, _*_}
-use mathlib.Core.Bool.{Bool, true, false, _||_, cond}
+use mathlib.Core.Bool.{Bool, false, _||_, cond}
 use mathlib.Core.List.{List, [], _∷_}
 use lib.Dec.{ltb, leb}
 use lib.IntN.{ℤ, pos, negsuc}
@@ -17,7 +17,6 @@ use Rattle.chebyshev.specs.Inverse.{Row, Matrix, inverted, singularRefusal}
 use Rattle.chebyshev.specs.Inverse.{Outcome as Inversion, singular, inverse}
 use Rattle.chebyshev.specs.Ideal.{idealMatrix}
 use Rattle.chebyshev.specs.Coefficients.{coefficientsBy}
-use Rattle.units.specs.declared.Seconds.{Seconds}
 use Rattle.checks.specs.Outcome.{Outcome, refused, answered, unlessRefused}
 use Rattle.checks.specs.Entries.{firstFailing, propagationChecks}
 use Rattle.checks.specs.Limits.{axes}

@@ -1,7 +1,7 @@
 // The closest approach of a satellite to the observer.
 ghost use mathlib.Core.Path.{_≡_};
 ghost use Prim.Native.Nat.{_+_, _*_, _≤_};
-ghost use lib.IntN.{ℤ, pos, natAbs, _+ℤ_};
+ghost use lib.IntN.{pos, natAbs, _+ℤ_};
 ghost use Rattle.checks.specs.Limits.{farthestInstant};
 ghost use Rattle.checks.specs.Passed.{Table};
 ghost use Rattle.orbit.specs.Fitting.{farthestOffset};

@@ -4,7 +4,7 @@ ghost use mathlib.Core.Bool.{false};
 ghost use Prim.Native.Nat.{_+_, _*_, _<_, _≤_};
 ghost use lib.ListN.{length};
 ghost use Rattle.checks.specs.Checks.{unrising};
-ghost use Rattle.orbit.specs.Window.{lastBefore, startOf, windowStart, secondsOf, windowSeconds, uneven, tauOf, nodeMatrix, axisOf, inversionOf, modelOr, modelAt, blankModel, modelAnswer, chebyshevModel};
+ghost use Rattle.orbit.specs.Window.{lastBefore, startOf, windowStart, secondsOf, windowSeconds, uneven, tauOf, nodeMatrix, axisOf, modelOr, modelAt, blankModel, modelAnswer, chebyshevModel};
 ghost use Rattle.chebyshev.specs.Inverse.{inverted};
 ghost use Rattle.chebyshev.specs.Ideal.{idealMatrix};
 use chebyshev::coefficients_by;

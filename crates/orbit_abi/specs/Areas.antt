@@ -1,9 +1,8 @@
 -- What C lends and gets: a matrix of a hundred doubles, row after row, and an outcome as the refusal's number and what a lent area holds.
 -- Assumes nothing.
 use Prim.Native.Nat.{ℕ, _+_, _*_}
-use mathlib.Core.List.{List}
 use lib.ListN.{getD}
-use lib.Ieee.{Float, nan}
+use lib.Ieee.{nan}
 use Rattle.checks.specs.Outcome as Outcomes
 use Rattle.chebyshev.specs.Lists.{listOf}
 use Rattle.chebyshev.specs.Inverse.{Row, Matrix, order, Outcome, singular, inverse, flat}

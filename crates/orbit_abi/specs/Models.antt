@@ -7,7 +7,6 @@ use lib.Dec.{ltb}
 use lib.ListN.{getD}
 use lib.Ieee.{Float, nan}
 use Rattle.chebyshev.specs.Lists.{listOf}
-use Rattle.units.specs.declared.Metres.{Metres}
 use Rattle.units.specs.declared.Observer.{Observer}
 use Rattle.orbit.specs.declared.fit.Report.{Report}
 use Rattle.orbit.specs.declared.window.ChebyshevOrbit.{ChebyshevOrbit}

@@ -1,9 +1,9 @@
 -- Column by column each coefficient is summed in the order of its row, and the columns are those of the ideal inverse. Assumes nothing.
-use mathlib.Core.Path.{_≡_, refl, sym, ap, _∙_}
+use mathlib.Core.Path.{_≡_, sym, ap, _∙_}
 use mathlib.Core.List.{[]}
-use Prim.Native.Nat.{ℕ, _+_, _-_, _≤_, _<_}
+use Prim.Native.Nat.{_-_, _≤_}
 use native.Mathlib.Omega.{arith}
-use lib.ListN.{length, getD, length-set}
+use lib.ListN.{length, getD}
 use lib.Ieee.{nan, ofBits}
 use Rattle.chebyshev.specs.Recurrence.{rounded, weighted}
 use Rattle.chebyshev.specs.Inverse.{Matrix, inverted, inverse, rowsOf}

@@ -1,6 +1,6 @@
 -- The table is the inversion of the ideal matrix, by computation: the matrix is worked out, inverted by the definition, and each double compared.
 -- Assumes nothing.
-use mathlib.Core.Path.{_≡_, refl, ap, _∙_}
+use mathlib.Core.Path.{refl}
 use lib.Ieee.{ofBits, add, sub, mul, div, lt, ofInt, neg}
 use Rattle.float.specs.Signs.{magnitudeOf}
 use Rattle.chebyshev.specs.Lists.{listOf}

@@ -1,8 +1,7 @@
 -- The pivot's test is the definition's, and each later step is one of its steps, as the callees ensure. Assumes nothing.
 use mathlib.Core.Path.{_≡_, refl, sym, ap, _∙_}
-use mathlib.Core.Bool.{Bool, true, false, not, true≢false}
-use lib.Ieee.{ofBits}
-use Rattle.chebyshev.specs.Inverse.{Matrix, tooSmall, clearedColumn}
+use mathlib.Core.Bool.{true, false, not, true≢false}
+use Rattle.chebyshev.specs.Inverse.{tooSmall, clearedColumn}
 use Rattle.chebyshev.proofs.Columns.{small-is, turned}
 use borrow.Author.Needs.{needs}
 use Rattle.chebyshev.proofs.inverse.clear_column.Statement.{statement}

@@ -1,9 +1,9 @@
 -- Below r the array holds the numbers of the column. Assumes nothing.
-use mathlib.Core.Path.{_≡_, refl, sym, ap, _∙_}
-use Prim.Native.Nat.{ℕ, _+_, _-_, _/_, _%_, _≤_, _<_}
+use mathlib.Core.Path.{_≡_, refl}
+use Prim.Native.Nat.{ℕ, _-_, _≤_, _<_}
 use native.Mathlib.Omega.{arith}
 use lib.ListN.{length, getD, length-set}
-use lib.Ieee.{Float, nan}
+use lib.Ieee.{nan}
 use borrow.Author.Count.{below-none}
 use Rattle.chebyshev.specs.Inverse.{cell}
 use Rattle.chebyshev.proofs.Filled.{filled, filled-more}

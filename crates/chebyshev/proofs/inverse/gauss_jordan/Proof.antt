@@ -1,6 +1,6 @@
 -- The columns from i on make, of the matrices as they are, the outcome of the whole; so a refused column is the refusal, and after the last the
 -- second matrix is the inverse. Assumes nothing.
-use Prim.Native.Nat.{ℕ, _≤_, _<_, _-_, _+_}
+use Prim.Native.Nat.{_≤_, _-_}
 use native.Mathlib.Omega.{arith}
 use mathlib.Core.Path.{_≡_, refl, sym, ap, _∙_}
 use lib.Ieee.{ofBits}

@@ -1,7 +1,7 @@
 -- Below j the array holds T0 to T(j − 1), so a turn writes Tj by the recurrence, and at the end the array is T0 to T9. Assumes nothing.
-use mathlib.Core.Path.{_≡_, refl, sym, ap, _∙_}
+use mathlib.Core.Path.{_≡_, refl}
 use mathlib.Core.List.{List, _∷_}
-use Prim.Native.Nat.{ℕ, zero, suc, _+_, _-_, _≤_, _<_}
+use Prim.Native.Nat.{ℕ, zero, suc, _-_, _≤_, _<_}
 use native.Mathlib.Omega.{arith}
 use lib.ListN.{length, getD, length-set, replicate}
 use lib.Ieee.{Float, nan, binary64, ofBits, sub, mul}

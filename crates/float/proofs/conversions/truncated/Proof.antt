@@ -8,7 +8,7 @@ use lib.IntN.{ℤ, pos, negsuc, negℤ, _-ℤ_}
 use mir.Syntax.{w64}
 use mir.Val.{SFits, toZ, ofZ}
 use mir.ValLaws.{toZ-ofZ, toZ-pos}
-use lib.Ieee.{binary64, fits, isNan}
+use lib.Ieee.{binary64, fits}
 use Rattle.float.proofs.Roots.{no-nan}
 use Rattle.float.proofs.WholeParts.{cut-up-is, cut-down-is, cut-nan, minus-one-less, negated}
 use Rattle.float.proofs.conversions.truncated.Statement.{statement}

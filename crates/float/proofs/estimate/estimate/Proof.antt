@@ -1,7 +1,6 @@
 -- Only safety: the patterns made are no NaNs, and nothing overflows. Nothing is promised of the number. Assumes nothing.
 use borrow.Author.Needs.{needs}
-use mathlib.Core.Path.{_≡_}
-use Prim.Native.Nat.{ℕ, _+_, _-_, _*_, _/_, _^_, _≤_, _<_}
+use Prim.Native.Nat.{ℕ, _+_, _-_, _*_, _/_, _^_, _<_}
 use native.Mathlib.Nat.{div-le-self}
 use native.Mathlib.Omega.{arith}
 use Rattle.float.proofs.Roots.{no-nan-bits}

@@ -1,6 +1,6 @@
 -- By the bit pattern: NaN, the zeros and infinity give themselves, positive doubles their root by digits, and what is left NaN. Assumes nothing.
 use borrow.Author.Needs.{needs}
-use mathlib.Core.Path.{_≡_, sym, ap, _∙_, subst}
+use mathlib.Core.Path.{sym, ap, _∙_, subst}
 use native.Mathlib.Omega.{arith}
 use lib.Dec.{T}
 use lib.Ieee.{binary64, ofBits, toBits, fits}

@@ -1,6 +1,6 @@
 -- Refused inputs give their number; else the instant is the search's. Assumes nothing.
-use mathlib.Core.Path.{_≡_, refl, sym, ap, _∙_, subst}
-use Prim.Native.Nat.{ℕ, _≤_}
+use mathlib.Core.Path.{sym, ap, _∙_, subst}
+use Prim.Native.Nat.{_≤_}
 use lib.IntN.{ℤ, natAbs}
 use lib.Ieee.{ofBits}
 use mir.Syntax.{w64}

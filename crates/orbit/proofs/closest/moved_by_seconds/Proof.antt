@@ -5,7 +5,6 @@ use mir.Syntax.{w64}
 use mir.Val.{SFits, toZ, ofZ}
 use mir.ValLaws.{toZ-ofZ}
 use Rattle.orbit.proofs.Offsets.{back, seconds-fit, later-fits}
-use borrow.Author.Needs.{needs}
 use Rattle.orbit.proofs.closest.moved_by_seconds.Statement.{statement}
 use Rattle.orbit.proofs.closest.moved_by_seconds.Tie as tie
 

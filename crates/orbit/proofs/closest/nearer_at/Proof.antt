@@ -1,6 +1,5 @@
 -- By what the propagation answered, and whether the squared range is smaller. Assumes nothing.
-use mathlib.Core.Path.{_≡_, sym, ap, ap₂, _∙_}
-use lib.IntN.{ℤ}
+use mathlib.Core.Path.{_≡_, ap, ap₂, _∙_}
 use mir.Syntax.{w64}
 use mir.Val.{toZ, ofZ}
 use mir.ValLaws.{toZ-ofZ}

@@ -1,19 +1,16 @@
 -- One stage about the centre, and a second one about 0 where the centre's magnitude is over 5: the definition's list. Assumes nothing.
-use mathlib.Core.Path.{_≡_, refl, sym, ap, _∙_, subst}
-use mathlib.Core.Bool.{Bool, true, false}
+use mathlib.Core.Path.{sym, ap, _∙_}
+use mathlib.Core.Bool.{true, false}
 use mathlib.Core.List.{map}
 use native.Mathlib.Omega.{arith}
 use borrow.Author.Tests.{not-true, not-false}
 use lib.Ieee.{Float, binary64, sub, lt, ofBits}
-use Rattle.float.specs.Signs.{Within}
-use Rattle.float.proofs.Bounds.{sub-within}
 use Rattle.samples.specs.Means.{recording}
 use Rattle.float.specs.Numbers.{nought}
 use Rattle.orbit.specs.declared.fit.LeastSoFar.{LeastSoFar}
 use Rattle.orbit.specs.Fit.{Trial, trial, fifteen, tenth, five, noneYet, shiftsFrom}
 use Rattle.orbit.specs.Residuals.{inputsOf, residualOf}
 use Rattle.orbit.specs.State.{updates, state}
-use Rattle.orbit.proofs.Shifts.{weaken}
 use Rattle.orbit.proofs.Finish.{start-within, still-fitting, coarse-one, coarse-two}
 use borrow.Author.Needs.{needs}
 use Rattle.orbit.proofs.fit.coarse_stage.Statement.{statement}

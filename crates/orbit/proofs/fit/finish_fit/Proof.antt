@@ -1,8 +1,7 @@
 -- Where the least so far is not below the largest finite double it is refused by 10; else the two stages run from it. Assumes nothing.
-use mathlib.Core.Path.{_≡_, refl, sym, ap, _∙_, subst}
+use mathlib.Core.Path.{_≡_, sym, ap, _∙_, subst}
 use mathlib.Core.Bool.{Bool, true, false, cond}
-use mathlib.Core.List.{List, map}
-use Prim.Native.Nat.{ℕ, _+_}
+use mathlib.Core.List.{map}
 use native.Mathlib.Omega.{arith}
 use borrow.Author.Tests.{not-true, not-false}
 use lib.ListN.{length}
@@ -10,11 +9,10 @@ use lib.Ieee.{Float, binary64, sub, lt, ofBits}
 use Rattle.float.specs.Signs.{Within}
 use Rattle.float.proofs.Bounds.{sub-within}
 use Rattle.samples.specs.Means.{recording}
-use Rattle.checks.specs.Outcome.{Outcome, refused, answered}
+use Rattle.checks.specs.Outcome.{refused, answered}
 use Rattle.orbit.specs.declared.fit.LeastSoFar.{LeastSoFar}
-use Rattle.orbit.specs.declared.fit.Report.{Report}
 use Rattle.float.specs.Numbers.{largestFinite}
-use Rattle.orbit.specs.Fit.{Trial, trial, twentieth, thousandth, hundredThousandth, shiftsFrom, fine, micro}
+use Rattle.orbit.specs.Fit.{Trial, trial, twentieth, thousandth, shiftsFrom, fine, micro}
 use Rattle.orbit.specs.Residuals.{inputsOf, residualOf}
 use Rattle.orbit.specs.State.{updates, stageFrom, reportFrom}
 use Rattle.orbit.proofs.Shifts.{weaken}

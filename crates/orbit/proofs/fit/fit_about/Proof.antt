@@ -1,8 +1,7 @@
 -- The predicted instant and so the centre are near; the stages end where the search of the whole list of shifts does. Assumes nothing.
-use mathlib.Core.Path.{_≡_, refl, sym, ap, ap₂, _∙_, subst}
-use mathlib.Core.List.{List, map}
+use mathlib.Core.Path.{_≡_, sym, ap, ap₂, _∙_, subst}
+use mathlib.Core.List.{map}
 use Prim.Native.Nat.{ℕ, _≤_}
-use native.Mathlib.Omega.{arith}
 use lib.IntN.{ℤ, natAbs}
 use lib.ListN.{length}
 use lib.Ieee.{Float}
@@ -11,9 +10,7 @@ use mir.ValLaws.{toZ-ofZ}
 use Rattle.float.specs.Signs.{Within}
 use Rattle.samples.specs.Means.{Sample, recording}
 use Rattle.samples.specs.Approach.{gapOf}
-use Rattle.checks.specs.Outcome.{Outcome}
 use Rattle.orbit.specs.declared.fit.LeastSoFar.{LeastSoFar}
-use Rattle.orbit.specs.declared.fit.Report.{Report}
 use Rattle.orbit.specs.Closest.{closestInstant}
 use Rattle.orbit.specs.Fit.{Trial, trial, noneYet, coarse, fitBy}
 use Rattle.orbit.specs.Residuals.{Residual, inputsOf, residualOf}

@@ -1,10 +1,8 @@
 -- Refused inputs give their number; else the samples have room among the values and the fit is the definition's. Assumes nothing.
-use mathlib.Core.Path.{_≡_, refl, sym, ap, _∙_, subst}
+use mathlib.Core.Path.{_≡_, sym, ap, _∙_, subst}
 use Prim.Native.Nat.{ℕ, _≤_}
-use native.Mathlib.Omega.{arith}
 use lib.IntN.{ℤ, natAbs}
-use lib.ListN.{length}
-use lib.Ieee.{Float, ofBits}
+use lib.Ieee.{ofBits}
 use Rattle.samples.specs.Means.{recording}
 use Rattle.checks.specs.Outcome.{Outcome}
 use Rattle.checks.specs.Entries.{firstFailing, fitChecks}

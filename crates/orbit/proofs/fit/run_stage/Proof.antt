@@ -1,14 +1,14 @@
 -- The least so far and the shifts that are left make up the whole stage; every shift of it is small. Assumes nothing.
 use mathlib.Core.Path.{_≡_, refl, sym, ap, _∙_, subst}
-use mathlib.Core.List.{List, map}
-use Prim.Native.Nat.{ℕ, _+_, _-_, _≤_, _<_}
+use mathlib.Core.List.{map}
+use Prim.Native.Nat.{_+_, _-_, _≤_}
 use native.Mathlib.Omega.{arith}
 use lib.ListN.{length}
 use lib.Ieee.{Float}
 use Rattle.float.specs.Signs.{Within}
 use Rattle.samples.specs.Means.{recording}
 use Rattle.orbit.specs.declared.fit.LeastSoFar.{LeastSoFar}
-use Rattle.orbit.specs.Fit.{Trial, trial, shiftAt, shiftsFrom}
+use Rattle.orbit.specs.Fit.{trial, shiftAt, shiftsFrom}
 use Rattle.orbit.specs.Residuals.{inputsOf, residualOf}
 use Rattle.orbit.specs.State.{update, updates}
 use Rattle.orbit.proofs.Shifts.{stage-within, weaken}

@@ -1,5 +1,5 @@
 -- The step is converted as the count it is. Assumes nothing.
-use mathlib.Core.Path.{_≡_, ap, _∙_}
+use mathlib.Core.Path.{ap, _∙_}
 use native.Mathlib.Omega.{arith}
 use lib.Ieee.{Float, binary64, add, mul}
 use mir.Syntax.{w64}

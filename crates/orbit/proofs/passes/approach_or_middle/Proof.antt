@@ -1,9 +1,9 @@
 -- The samples passed their checks, so the entry's answer is the definition's: the approach, or else the middle. Assumes nothing.
-use mathlib.Core.Path.{_≡_, refl, sym, ap, _∙_, subst}
+use mathlib.Core.Path.{_≡_, sym, ap, _∙_, subst}
 use Prim.Native.Nat.{ℕ, _/_, _≤_}
 use lib.IntN.{ℤ, pos, natAbs}
 use lib.ListN.{length, getD}
-use Rattle.checks.specs.Outcome.{Outcome, unlessRefused}
+use Rattle.checks.specs.Outcome.{unlessRefused}
 use Rattle.checks.proofs.Passed.{samples-pass}
 use Rattle.samples.specs.Approach.{approachOf, approachIn}
 use Rattle.orbit.specs.Passes.{approachOr, middleOf, measuredBy}

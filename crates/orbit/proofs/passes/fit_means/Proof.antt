@@ -1,12 +1,11 @@
 -- The means have room among the values, and their measured approach is near. Assumes nothing.
-use mathlib.Core.Path.{_≡_, sym, ap, _∙_, subst}
-use Prim.Native.Nat.{ℕ, _≤_}
+use mathlib.Core.Path.{sym, ap, _∙_, subst}
+use Prim.Native.Nat.{_≤_}
 use lib.IntN.{ℤ, natAbs}
 use Rattle.samples.specs.Means.{recording}
 use Rattle.orbit.specs.Fit.{fitted}
 use Rattle.orbit.specs.Residuals.{inputsOf}
-use Rattle.orbit.specs.Passes.{measuredBy}
-use Rattle.orbit.proofs.Offsets.{back, near-is}
+use Rattle.orbit.proofs.Offsets.{near-is}
 use borrow.Author.Needs.{needs}
 use Rattle.orbit.proofs.passes.fit_means.Statement.{statement}
 use Rattle.orbit.proofs.passes.fit_means.Tie as tie

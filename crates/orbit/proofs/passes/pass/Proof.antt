@@ -7,16 +7,15 @@ use native.Mathlib.Omega.{arith}
 use lib.IntN.{ℤ}
 use lib.ListN.{length, take, length-map}
 use lib.Ieee.{Float, ofBits}
-use Rattle.checks.specs.Outcome.{Outcome, refused, answered, outcome, area, written}
+use Rattle.checks.specs.Outcome.{refused, answered, outcome, area, written}
 use Rattle.checks.proofs.Passed.{pass-table, pass-samples, pass-areas, means-pass}
 use Rattle.checks.specs.Passed.{Samples}
-use Rattle.checks.proofs.Outcomes.{unless-refused, unless-none, area-refused, area-written}
-use Rattle.samples.specs.Means.{Sample, recording, means, instants, frequencies, meansRefusal, meansCount, meansInstants, meansFrequencies, countOf}
+use Rattle.checks.proofs.Outcomes.{unless-refused, unless-none, area-refused}
+use Rattle.samples.specs.Means.{Sample, recording, means, instants, frequencies, meansRefusal, countOf}
 use Rattle.samples.proofs.Seconds.{few-means}
 use Rattle.samples.proofs.Recordings.{record-length}
-use Rattle.orbit.specs.declared.fit.Report.{Report}
 use Rattle.orbit.specs.Window.{evenTolerance}
-use Rattle.orbit.specs.Fit.{fitted, fitIn}
+use Rattle.orbit.specs.Fit.{fitted}
 use Rattle.orbit.specs.Residuals.{Inputs, inputsOf}
 use Rattle.orbit.specs.Passes.{measuredBy, measuredOf, passOutcome, passRefusal}
 use Rattle.orbit.proofs.Trials.{length-front}

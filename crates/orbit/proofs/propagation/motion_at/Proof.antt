@@ -1,10 +1,9 @@
 -- τ is the definition's, so the values and slopes there are, and each component is the weighted sum of its row. Assumes nothing.
-use mathlib.Core.Path.{_≡_, sym, ap, _∙_}
-use lib.Ieee.{Float, ofBits}
+use mathlib.Core.Path.{_≡_, ap, _∙_}
+use lib.Ieee.{ofBits}
 use mir.Syntax.{w64}
 use mir.ValLaws.{toZ-ofZ}
 use Rattle.chebyshev.specs.Recurrence.{rounded, polynomials, derivatives, weighted}
-use Rattle.chebyshev.specs.Inverse.{Row}
 use Rattle.orbit.specs.Window.{secondsOf, tauOf}
 use Rattle.orbit.specs.Propagation.{tauAt}
 use borrow.Author.Needs.{needs}

@@ -1,13 +1,11 @@
 -- Refused inputs give their number; a table that passed propagates the instant. Assumes nothing.
-use mathlib.Core.Path.{_≡_, refl, sym, ap, _∙_, subst}
-use Prim.Native.Nat.{ℕ, _≤_}
-use lib.IntN.{ℤ, natAbs}
+use mathlib.Core.Path.{sym, ap, _∙_}
 use lib.Ieee.{ofBits}
 use Rattle.checks.specs.Entries.{firstFailing, propagationChecks}
 use Rattle.checks.proofs.Passed.{propagation-table, propagation-near}
 use Rattle.checks.proofs.Outcomes.{unless-refused, unless-none}
 use Rattle.orbit.specs.Window.{evenTolerance}
-use Rattle.orbit.specs.Propagation.{Motion, propagated}
+use Rattle.orbit.specs.Propagation.{propagated}
 use Rattle.orbit.proofs.Offsets.{near-is}
 use borrow.Author.Needs.{needs}
 use Rattle.orbit.proofs.propagation.propagate_ecef.Statement.{statement}

@@ -1,7 +1,7 @@
 -- The values so far and the residuals of the samples that are left make up those of the whole recording. Assumes nothing.
 use mathlib.Core.Path.{_≡_, refl, sym, ap, ap₂, _∙_, subst}
 use mathlib.Core.List.{List, [], _++_}
-use Prim.Native.Nat.{ℕ, _+_, _-_, _≤_, _<_}
+use Prim.Native.Nat.{ℕ, _+_, _-_, _≤_}
 use native.Mathlib.Omega.{arith}
 use lib.IntN.{ℤ, pos, natAbs, _-ℤ_, _*ℤ_}
 use lib.ListN.{length, getD, take, drop}
@@ -9,7 +9,7 @@ use lib.Ieee.{Float, nan}
 use mir.Syntax.{w64}
 use mir.Val.{toZ, ofZ}
 use mir.ValLaws.{toZ-ofZ}
-use Rattle.samples.specs.Means.{Sample, recording}
+use Rattle.samples.specs.Means.{recording}
 use Rattle.orbit.specs.Propagation.{propagated}
 use Rattle.orbit.specs.Residuals.{inputsOf, microseconds, residualIn, residualOf, keep, residuals}
 use Rattle.orbit.proofs.Totals.{residuals-step, residuals-end}

@@ -1,5 +1,5 @@
 -- The product is the definition's, and the cast its truncation. Assumes nothing.
-use mathlib.Core.Path.{_≡_, refl, _∙_}
+use mathlib.Core.Path.{_∙_}
 use lib.Ieee.{ofBits}
 use mir.Syntax.{w64}
 use mir.ValLaws.{toZ-ofZ}

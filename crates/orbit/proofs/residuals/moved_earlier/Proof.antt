@@ -6,7 +6,6 @@ use mir.Val.{SFits, toZ, ofZ}
 use mir.ValLaws.{toZ-ofZ}
 use Rattle.orbit.proofs.Offsets.{back}
 use Rattle.orbit.proofs.Shifts.{thousand-fits, moved-fits}
-use borrow.Author.Needs.{needs}
 use Rattle.orbit.proofs.residuals.moved_earlier.Statement.{statement}
 use Rattle.orbit.proofs.residuals.moved_earlier.Tie as tie
 

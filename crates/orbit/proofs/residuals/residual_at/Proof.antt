@@ -1,6 +1,5 @@
 -- The operations are the definition's, in its order, and the range is the root of the squared range. Assumes nothing.
-use mathlib.Core.Path.{_≡_, refl, ap, _∙_}
-use lib.Ieee.{Float, ofBits}
+use lib.Ieee.{ofBits}
 use borrow.Author.Needs.{needs}
 use Rattle.orbit.proofs.residuals.residual_at.Statement.{statement}
 use Rattle.orbit.proofs.residuals.residual_at.Tie as tie

@@ -1,9 +1,9 @@
 -- The sum so far and the values that are left make up the whole sum. Assumes nothing.
-use mathlib.Core.Path.{_≡_, refl, sym, ap, _∙_}
-use Prim.Native.Nat.{ℕ, _+_, _-_, _≤_, _<_}
+use mathlib.Core.Path.{_≡_, sym, _∙_}
+use Prim.Native.Nat.{_-_, _≤_}
 use native.Mathlib.Omega.{arith}
-use lib.ListN.{length, take, drop}
-use lib.Ieee.{Float, ofBits, neg}
+use lib.ListN.{take, drop}
+use lib.Ieee.{ofBits, neg}
 use Rattle.orbit.specs.Residuals.{total}
 use Rattle.float.specs.Numbers.{minusZero}
 use Rattle.orbit.proofs.Totals.{total-step, total-end}

@@ -1,11 +1,9 @@
 -- Below k the array holds the axis of the window. Assumes nothing.
-use mathlib.Core.Path.{_≡_, refl, sym, ap, _∙_}
-use mathlib.Core.List.{[]}
+use mathlib.Core.Path.{_≡_, refl}
 use Prim.Native.Nat.{ℕ, _+_, _-_, _*_, _≤_, _<_}
 use native.Mathlib.Omega.{arith}
 use lib.ListN.{length, getD, length-set}
 use lib.Ieee.{nan}
-use lib.IntN.{pos}
 use borrow.Author.Count.{below-none}
 use Rattle.chebyshev.proofs.Filled.{filled, filled-more}
 use borrow.Author.Needs.{needs}

@@ -1,6 +1,6 @@
 -- Each axis has its coefficients by the ideal inverse, which is not refused. Assumes nothing.
-use mathlib.Core.Path.{_≡_, ap, _∙_}
-use Rattle.chebyshev.specs.Inverse.{Row, inverted, rowsOf}
+use mathlib.Core.Path.{ap, _∙_}
+use Rattle.chebyshev.specs.Inverse.{inverted, rowsOf}
 use Rattle.chebyshev.specs.Ideal.{idealMatrix}
 use Rattle.chebyshev.specs.Coefficients.{coefficientsBy}
 use Rattle.chebyshev.proofs.IdealInverse.{ideal-not-refused}

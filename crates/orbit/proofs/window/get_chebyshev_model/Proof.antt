@@ -1,13 +1,11 @@
 -- Refused inputs give their number and zeros; a table that passed gives the model of the window about the instant. Assumes nothing.
-use mathlib.Core.Path.{_≡_, refl, sym, ap, _∙_, subst}
-use Prim.Native.Nat.{ℕ, _≤_}
-use lib.IntN.{ℤ, natAbs}
+use mathlib.Core.Path.{sym, ap, _∙_}
+use Prim.Native.Nat.{ℕ}
 use lib.Ieee.{ofBits}
-use Rattle.checks.specs.Outcome.{Outcome, refused}
+use Rattle.checks.specs.Outcome.{refused}
 use Rattle.checks.specs.Entries.{firstFailing, propagationChecks}
 use Rattle.checks.proofs.Passed.{propagation-table, propagation-near}
 use Rattle.checks.proofs.Outcomes.{unless-refused, unless-none}
-use Rattle.orbit.specs.declared.window.ChebyshevOrbit.{ChebyshevOrbit}
 use Rattle.orbit.specs.Window.{evenTolerance, windowStart, modelAt, modelAbout, modelAnswer}
 use Rattle.orbit.proofs.Offsets.{near-is}
 use native.Mathlib.Omega.{arith}

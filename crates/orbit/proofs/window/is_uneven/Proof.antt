@@ -1,10 +1,9 @@
 -- No gap before k is wide, so the rest decides; a wide gap decides at once. Assumes nothing.
 use mathlib.Core.Path.{_≡_, refl, sym, ap, _∙_}
-use mathlib.Core.Bool.{Bool, true, false, _||_}
-use Prim.Native.Nat.{ℕ, _+_, _-_, _≤_, _<_}
+use Prim.Native.Nat.{_-_, _≤_}
 use native.Mathlib.Omega.{arith}
 use lib.ListN.{length, getD}
-use lib.Ieee.{Float, nan, binary64, sub, div, lt, ofBits}
+use lib.Ieee.{nan, binary64, sub, div, lt, ofBits}
 use Rattle.orbit.specs.Window.{wideFrom, uneven}
 use Rattle.float.specs.Numbers.{nine}
 use Rattle.orbit.proofs.Models.{wide-found, wide-passed, wide-end}

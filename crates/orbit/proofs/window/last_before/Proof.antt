@@ -1,16 +1,14 @@
 -- Each halving keeps the part that holds the last coordinate at or before the instant; a part of one is that coordinate. Assumes nothing.
 use mathlib.Core.Path.{_≡_, refl, sym, ap, _∙_, subst}
 use mathlib.Core.Logic.{⊎-elim, inl}
-use mathlib.Core.Bool.{Bool, true, false}
 use Prim.Native.Nat.{ℕ, _+_, _-_, _/_, _≤_, _<_}
 use native.Mathlib.Omega.{arith}
-use lib.IntN.{ℤ, pos}
+use lib.IntN.{ℤ}
 use lib.Signed.{leZ}
-use lib.ListN.{length, getD}
+use lib.ListN.{length}
 use mir.Syntax.{w64}
 use mir.Val.{toZ, ofZ}
 use mir.ValLaws.{toZ-ofZ}
-use Rattle.checks.specs.Checks.{unrising}
 use Rattle.orbit.specs.Window.{lastBefore}
 use Rattle.orbit.proofs.Searches.{at, Halved, halved-up, halved-down, halved-end}
 use borrow.Author.Needs.{needs}

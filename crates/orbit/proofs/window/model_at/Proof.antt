@@ -1,5 +1,5 @@
 -- By the window's evenness, which decides whose inverse is taken. Assumes nothing.
-use mathlib.Core.Path.{_≡_, sym, ap, _∙_}
+use mathlib.Core.Path.{sym, ap, _∙_}
 use Rattle.orbit.specs.Window.{modelAnswer}
 use Rattle.orbit.proofs.Models.{model-uneven, model-even}
 use borrow.Author.Needs.{needs}

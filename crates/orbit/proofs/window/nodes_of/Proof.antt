@@ -1,11 +1,10 @@
 -- Below k the matrix holds a row for each time, by what the callees ensure. Assumes nothing.
-use mathlib.Core.Path.{_≡_, refl, sym, ap, _∙_}
+use mathlib.Core.Path.{_≡_, ap, _∙_}
 use mathlib.Core.List.{[]}
-use Prim.Native.Nat.{ℕ, _+_, _-_, _*_, _≤_, _<_}
+use Prim.Native.Nat.{ℕ, _-_, _≤_, _<_}
 use native.Mathlib.Omega.{arith}
 use lib.ListN.{length, getD, length-set}
 use lib.Ieee.{nan}
-use lib.IntN.{pos}
 use borrow.Author.Count.{below-none}
 use Rattle.chebyshev.proofs.Filled.{filled, filled-more}
 use Rattle.chebyshev.specs.Recurrence.{rounded, polynomials}

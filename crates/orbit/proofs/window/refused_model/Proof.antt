@@ -1,7 +1,6 @@
 -- The zeros are written out. Assumes nothing.
 use mathlib.Core.Path.{refl}
 use lib.Ieee.{ofBits}
-use borrow.Author.Needs.{needs}
 use Rattle.orbit.proofs.window.refused_model.Statement.{statement}
 use Rattle.orbit.proofs.window.refused_model.Tie as tie
 

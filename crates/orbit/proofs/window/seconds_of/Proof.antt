@@ -1,7 +1,6 @@
 -- The count goes to the conversion as it came, and is multiplied by 1e-9. Assumes nothing.
 use mathlib.Core.Path.{ap, _∙_}
 use lib.Ieee.{Float, binary64, mul, ofBits}
-use lib.IntN.{ℤ}
 use mir.Syntax.{w64}
 use mir.ValLaws.{toZ-ofZ}
 use Rattle.float.specs.Conversions.{nearestOf}

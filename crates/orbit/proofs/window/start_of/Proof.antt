@@ -1,7 +1,6 @@
 -- By the two tests, which are the definition's. Assumes nothing.
-use mathlib.Core.Path.{_≡_, refl, sym}
 use native.Mathlib.Omega.{arith}
-use Prim.Native.Nat.{ℕ, _+_, _-_, _≤_, _<_}
+use Prim.Native.Nat.{_+_, _≤_, _<_}
 use borrow.Author.Tests.{lt-ltb, le-ltb, le-leb, lt-leb}
 use borrow.Author.Needs.{needs}
 use Rattle.orbit.proofs.window.start_of.Statement.{statement}

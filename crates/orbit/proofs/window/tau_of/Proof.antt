@@ -1,7 +1,6 @@
 -- The operations are the definition's, in its order. Assumes nothing.
 use mathlib.Core.Path.{refl}
 use lib.Ieee.{ofBits}
-use borrow.Author.Needs.{needs}
 use Rattle.orbit.proofs.window.tau_of.Statement.{statement}
 use Rattle.orbit.proofs.window.tau_of.Tie as tie
 

@@ -1,9 +1,9 @@
 -- The inverse is that of the window's own nodes; where it is refused so is the model, and else each axis has its coefficients by its rows. Assumes
 -- nothing.
 use mathlib.Core.Path.{_≡_, sym, ap, ap₂, _∙_}
-use Rattle.chebyshev.specs.Inverse.{Row, Matrix, inverted, rowsOf, refusalOf}
+use Rattle.chebyshev.specs.Inverse.{Matrix, inverted, rowsOf, refusalOf}
 use Rattle.chebyshev.specs.Coefficients.{coefficientsBy}
-use Rattle.orbit.specs.Window.{nodeMatrix, axisOf}
+use Rattle.orbit.specs.Window.{nodeMatrix}
 use Rattle.orbit.proofs.Models.{made-is, refused-is}
 use borrow.Author.Needs.{needs}
 use Rattle.orbit.proofs.window.uneven_model.Statement.{statement}

@@ -1,6 +1,5 @@
 -- Below c the row holds the numbers from 10 r on. Assumes nothing.
-use mathlib.Core.Path.{_≡_, refl, sym, ap, _∙_}
-use mathlib.Core.List.{[]}
+use mathlib.Core.Path.{_≡_, refl}
 use Prim.Native.Nat.{ℕ, _+_, _-_, _*_, _≤_, _<_}
 use native.Mathlib.Omega.{arith}
 use lib.ListN.{length, getD, length-set}

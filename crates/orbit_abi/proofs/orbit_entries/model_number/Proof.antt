@@ -1,5 +1,4 @@
 -- By the tests: each holds or fails as in the definition. Assumes nothing.
-use mathlib.Core.Path.{refl}
 use borrow.Author.Tests.{lt-ltb, le-ltb}
 use borrow.Author.Needs.{needs}
 use Rattle.orbit_abi.proofs.orbit_entries.model_number.Statement.{statement}

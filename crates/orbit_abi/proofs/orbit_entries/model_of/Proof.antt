@@ -1,5 +1,4 @@
 -- The end times are the first two numbers, and each row is what its own function ensures. Assumes nothing.
-use mathlib.Core.Path.{refl}
 use borrow.Author.Needs.{needs}
 use Rattle.orbit_abi.proofs.orbit_entries.model_of.Statement.{statement}
 use Rattle.orbit_abi.proofs.orbit_entries.model_of.Tie as tie

@@ -1,5 +1,5 @@
 -- By the entry's answer: a slope goes into the area, and a refusal leaves it. Assumes nothing.
-use mathlib.Core.Path.{_≡_, refl, sym, ap, _∙_}
+use mathlib.Core.Path.{refl, sym, ap, _∙_}
 use lib.Ieee.{Float}
 use Rattle.samples.specs.Approach.{slopeIn, steepest}
 use Rattle.orbit_abi.proofs.Outcomes.{answered-as, refused-as}
