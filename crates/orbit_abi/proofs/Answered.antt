@@ -1,0 +1,107 @@
+-- 0 says answered: no entry's outcome is a refusal with the number 0, so a C caller reads an answer exactly where there is one. A check that fails gives
+-- its own number, and 8, 9 and 10 come from their own cases; none of them is 0. Assumes nothing.
+use mathlib.Core.Path.{_≡_, refl}
+use mathlib.Core.Bool.{Bool, true, false, cond}
+use mathlib.Core.List.{List}
+use Prim.Native.Nat.{ℕ, zero, suc}
+use native.Mathlib.Omega.{arith}
+use lib.IntN.{ℤ, pos}
+use lib.ListN.{length, getD}
+use lib.Ieee.{Float, lt}
+use Rattle.float.specs.Numbers.{nought}
+use Rattle.units.specs.declared.Observer.{Observer}
+use Rattle.chebyshev.specs.Inverse.{singular, inverse}
+use Rattle.chebyshev.specs.Inverse.{Outcome as Inversion}
+use Rattle.checks.specs.Outcome.{Outcome, refused, answered, outcome, unlessRefused}
+use Rattle.checks.specs.Entries.{firstFailing, evaluationChecks, propagationChecks, closestChecks, samplesChecks, fitChecks}
+use Rattle.samples.specs.Means.{recording, means, meansRefusal, meansCount}
+use Rattle.samples.specs.Approach.{noFloor, steepestSlope, leastSlope, approachOf, measuredApproach, steepest}
+use Rattle.orbit.specs.declared.window.ChebyshevOrbit.{ChebyshevOrbit}
+use Rattle.orbit.specs.Window.{evenTolerance, windowStart, windowSeconds, inversionOf, modelOr, modelAbout, chebyshevModel}
+use Rattle.orbit.specs.Propagation.{motionAt, evaluated, evaluation, propagation}
+use Rattle.orbit.specs.Closest.{closestInstant, closestApproach}
+use Rattle.orbit.specs.Residuals.{Inputs, residualOf}
+use Rattle.orbit.specs.Fit.{Trial, trial, Best, noneYet, found, reportOf, firstLeast, shifts, fitBy, centreOf, fitted, satelliteFit}
+use Rattle.orbit.specs.Passes.{measuredOf, passRefusal, passOutcome, passReport}
+use Rattle.orbit_abi.specs.Areas.{refusalIn}
+
+-- an answer, or a refusal whose number is not 0
+abbrev pub Told : {A : Type 0} → Outcome A → Type 0
+Told (refused zero) = ⊥
+Told (refused (suc n)) = Unit {0}
+Told (answered a) = Unit {0}
+
+-- then the number 0 is an answer's
+pub answered-by-zero : {A : Type 0} (o : Outcome A) → Told o → refusalIn o ≡ 0 → (a : A) × (o ≡ answered a)
+answered-by-zero (refused zero) t e = absurd t
+answered-by-zero (refused (suc n)) t e = absurd (omega (arith, e))
+answered-by-zero (answered a) t e = (a, refl)
+
+-- ---- the ways to an outcome
+
+by-checks : {A : Type 0} (n : ℕ) (a : A) → Told (outcome n a)
+by-checks zero a = tt
+by-checks (suc n) a = tt
+
+after-checks : {A : Type 0} (n : ℕ) (o : Outcome A) → Told o → Told (unlessRefused n o)
+after-checks zero o t = t
+after-checks (suc n) o t = tt
+
+by-inversion : (i : Inversion) (t positions : List Float) (start : ℕ) → Told (modelOr i t positions start)
+by-inversion singular t positions start = tt
+by-inversion (inverse v) t positions start = tt
+
+by-model : (o : Outcome ChebyshevOrbit) (t : ℤ) → Told o → Told (evaluated o t)
+by-model (refused zero) t h = h
+by-model (refused (suc n)) t h = tt
+by-model (answered m) t h = tt
+
+by-slope : (b : Bool) (t : ℤ) → Told (cond b (answered t) (refused 9))
+by-slope true t = tt
+by-slope false t = tt
+
+by-best : (n : ℕ) (b : Best) → Told (reportOf n b)
+by-best n noneYet = tt
+by-best n (found t) = tt
+
+by-fit : (try : Float → Trial) (n : ℕ) (centre : Float) → Told (fitBy try n centre)
+unfolding fitBy
+by-fit try n centre = by-best n (firstLeast try (shifts try centre))
+
+about : (instants : List ℤ) (positions : List Float) (t : ℤ) → Told (modelAbout evenTolerance instants positions t)
+about instants positions t = let w = windowSeconds instants (windowStart instants t) in by-inversion (inversionOf evenTolerance w) w positions (windowStart instants t)
+
+-- ---- the entries
+
+pub model-told : (instants : List ℤ) (positions : List Float) (t : ℤ) → Told (chebyshevModel instants positions t)
+model-told instants positions t = after-checks (firstFailing (propagationChecks instants positions t)) (modelAbout evenTolerance instants positions t) (about instants positions t)
+
+pub evaluation-told : (m : ChebyshevOrbit) (t : ℤ) → Told (evaluation m t)
+evaluation-told m t = by-checks (firstFailing (evaluationChecks t)) (motionAt m t)
+
+pub propagation-told : (instants : List ℤ) (positions : List Float) (t : ℤ) → Told (propagation instants positions t)
+propagation-told instants positions t =
+    let m = modelAbout evenTolerance instants positions t in
+    after-checks (firstFailing (propagationChecks instants positions t)) (evaluated m t) (by-model m t (about instants positions t))
+
+pub closest-told : (instants : List ℤ) (positions : List Float) (o : Observer) (t : ℤ) → Told (closestApproach instants positions o t)
+closest-told instants positions o t = by-checks (firstFailing (closestChecks instants positions (o .x .0) (o .y .0) (o .z .0) t)) (closestInstant evenTolerance instants positions o t)
+
+pub means-told : (ts : List ℤ) (fs : List Float) (is : List ℤ) (hs : List Float) → Told (meansCount ts fs is hs)
+means-told ts fs is hs = by-checks (meansRefusal ts fs is hs) (length (means (recording ts fs)))
+
+pub approach-told : (ts : List ℤ) (fs : List Float) → Told (measuredApproach ts fs)
+approach-told ts fs = let best = leastSlope noFloor ts fs in after-checks (firstFailing (samplesChecks ts fs)) (approachOf ts fs) (by-slope (lt (best .slope) nought) (getD ts (best .middle) (pos 0)))
+
+pub steepest-told : (ts : List ℤ) (fs : List Float) → Told (steepest ts fs)
+steepest-told ts fs = by-checks (firstFailing (samplesChecks ts fs)) (leastSlope steepestSlope ts fs .slope)
+
+pub fit-told : (i : Inputs) (ts : List ℤ) (fs : List Float) (measured : ℤ) → Told (satelliteFit i ts fs measured)
+fit-told i ts fs measured =
+    after-checks (firstFailing (fitChecks (i .instants) (i .positions) ts fs (i .observer .x .0) (i .observer .y .0) (i .observer .z .0) (i .f0) measured)) (fitted i (recording ts fs) measured)
+    (by-fit (trial (residualOf i) (recording ts fs)) (length (recording ts fs)) (centreOf i measured))
+
+pub pass-told : (i : Inputs) (ts : List ℤ) (fs : List Float) (is : List ℤ) (hs : List Float) → Told (passReport i ts fs is hs)
+pass-told i ts fs is hs =
+    let M = means (recording ts fs) in
+    after-checks (passRefusal i ts fs is hs) (passOutcome i (recording ts fs)) (by-fit (trial (residualOf i) M) (length M) (centreOf i (measuredOf M)))
