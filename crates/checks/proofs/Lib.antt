@@ -1,6 +1,6 @@
 -- What the proofs of checks share, and the laws that the crates above cite (`pub`).
 mod Lists
 mod Orders
-mod First
+pub mod First
 pub mod Passed
 pub mod Outcomes

@@ -4,13 +4,13 @@ use Prim.Native.Nat.{ℕ, zero, suc, _+_, _-_, _*_, _/_, _%_, _^_, _≤_, _<_, m
 use native.Mathlib.Nat.{le-trans, lt-of-lt-of-le, mul-assoc, div-eq-of-lt, mul-div-mul-right, mul-div-cancel, div-le-self, mul-le-mul, zero-add}
 use native.Mathlib.Omega.{arith}
 use mathlib.Core.Bool.{Bool, true, false, not, cond, true≢false, false≢true}
-use lib.Dec.{T, eqb, eqb→eq, not-T, lit≤}
+use lib.Dec.{T, eqb, lit≤}
 use lib.IntN.{pos, negsuc, negℤ, _-ℤ_}
 use lib.Pow.{pow-add, pow-pos, pow-mono, shl-lt}
 use lib.Ieee.{Float, nan, inf, fin, binary64, up, down, odd, ofFields, toSigned, isNan, toBits, fits, ne}
-use lib.Ieee.Bits.{cond-no, ofBits-toBits}
+use lib.Ieee.Bits.{ofBits-toBits}
 use lib.Ieee.Compare.{differs-from-itself}
-use Rattle.float.proofs.Patterns.{unsigned, above}
+use Rattle.float.proofs.Patterns.{unsigned, above, under-ones}
 use lib.Ieee.Fits.{down-pos}
 use lib.Ieee.Nearest.{div-same}
 use lib.Ieee.Exact.{HasValue, odd-sign}
@@ -30,13 +30,6 @@ over n h = omega arith
 
 beyond : (s : Bool) (q k n : ℕ) → q * 2 ^ k / 2 ^ 1074 ≡ n → 9223372036854775808 ≤ n → wholePart (odd 53 s q k 1074) ≡ 9223372036854775808
 beyond s q k n e h = whole-at (odd 53 s q k 1074) s (q * 2 ^ k) (2 ^ 1074) n (odd-sign 53 s q k 1074) (pow-pos 1074) e ∙ over n h
-
-differ : (x : ℕ) → suc x < 2047 → suc x ≡ 2047 → ⊥
-differ x h e = omega arith
-
-under-ones : (s : Bool) (x t : ℕ) → suc x < 2047 → ofFields binary64 s (suc x) t ≡ odd 53 s (4503599627370496 + t) x 1074
-unfolding ofFields
-under-ones s x t h = cond-no (eqb (suc x) 2047) (cond (eqb t 0) (inf s) nan) (odd 53 s (4503599627370496 + t) x 1074) (not-T (eqb (suc x) 2047) (λ (u : T (eqb (suc x) 2047)). differ x h (eqb→eq (suc x) 2047 u)))
 
 -- ---- by the field
 

@@ -1,7 +1,7 @@
 -- The last coordinate at or before an instant: in a list that rises it is the one that halving ends at. Assumes nothing.
 use mathlib.Core.Path.{_≡_, refl, sym, ap, _∙_, subst}
 use mathlib.Core.Logic.{_⊎_, inl, inr}
-use mathlib.Core.Bool.{Bool, true, false, not, _||_, cond, true≢false}
+use mathlib.Core.Bool.{Bool, true, false, not, cond, true≢false}
 use mathlib.Core.List.{List, [], _∷_}
 use Prim.Native.Nat.{ℕ, zero, suc, _+_, _-_, _/_, _≤_, _<_}
 use native.Mathlib.Nat.{eq-or-lt-of-le, add-zero, le-of-lt}
@@ -10,7 +10,10 @@ use lib.Dec.{T, ltb→lt, le→leb}
 use lib.IntN.{ℤ, pos, negsuc}
 use lib.Signed.{ltZ, leZ, _<ℤ_, _≤ℤ_, ltZ-yes, <ℤ-≤ℤ-trans}
 use lib.ListN.{length, getD}
+use borrow.Author.Tests.{not-false}
 use Rattle.checks.specs.Checks.{unrising}
+use Rattle.checks.proofs.First.{neither}
+use Rattle.samples.proofs.Seconds.{<ℤ-trans}
 use Rattle.orbit.specs.Window.{lastFrom, lastBefore}
 
 abbrev pub at : List ℤ → ℕ → ℤ
@@ -22,26 +25,11 @@ lt→le (pos a) (negsuc b) h = h
 lt→le (negsuc a) (pos b) h = h
 lt→le (negsuc a) (negsuc b) h = le→leb b a (le-of-lt (ltb→lt b a h))
 
-<ℤ-trans : {a b c : ℤ} → a <ℤ b → b <ℤ c → a <ℤ c
-<ℤ-trans {a} {b} {c} h k = <ℤ-≤ℤ-trans h (record { le = lt→le b c (k .lt) })
-
 -- ---- a list that rises
-
-or-left : (v w : Bool) → v || w ≡ false → v ≡ false
-or-left true w h = h
-or-left false w h = refl
-
-or-right : (v w : Bool) → v || w ≡ false → w ≡ false
-or-right true w h = absurd (true≢false h)
-or-right false w h = h
-
-not-false : (v : Bool) → not v ≡ false → T v
-not-false true h = tt
-not-false false h = absurd (true≢false h)
 
 head-rises : (a b : ℤ) (r : List ℤ) → unrising (a ∷ b ∷ r) ≡ false → (a <ℤ b) × (unrising (b ∷ r) ≡ false)
 unfolding unrising
-head-rises a b r h = (ltZ-yes {a = a} {b = b} (not-false (ltZ a b) (or-left (not (ltZ a b)) (unrising (b ∷ r)) h)), or-right (not (ltZ a b)) (unrising (b ∷ r)) h)
+head-rises a b r h = (ltZ-yes {a = a} {b = b} (subst T (sym (not-false (ltZ a b) (neither (not (ltZ a b)) (unrising (b ∷ r)) h .0))) tt), neither (not (ltZ a b)) (unrising (b ∷ r)) h .1)
 
 tail-rises : (a : ℤ) (ts : List ℤ) → unrising (a ∷ ts) ≡ false → unrising ts ≡ false
 unfolding unrising

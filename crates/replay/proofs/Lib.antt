@@ -1,5 +1,4 @@
 -- What the proofs of replay share.
 mod Glyphs
-mod Doubles
 mod Signs
 mod Filled

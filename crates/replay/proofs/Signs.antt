@@ -1,8 +1,8 @@
 -- Signed numbers by their two's complement: what the code computes on each side of zero. Assumes nothing.
-use mathlib.Core.Path.{_≡_, refl, sym, ap, _∙_, subst}
-use mathlib.Core.Bool.{Bool, true, false, true≢false, false≢true}
+use mathlib.Core.Path.{_≡_, refl, sym, ap, _∙_}
+use mathlib.Core.Bool.{true, false, true≢false, false≢true}
 use Prim.Native.Nat.{ℕ, zero, suc, _-_, _<_}
-use native.Mathlib.Nat.{lt-of-lt-of-le, zero-add}
+use native.Mathlib.Nat.{lt-of-lt-of-le}
 use native.Mathlib.Omega.{arith}
 use lib.Arith.{le→nltb}
 use lib.Dec.{T, ltb, leb·zero, lit≤}
@@ -10,12 +10,7 @@ use lib.Ieee.Bits.{cond-no}
 use lib.IntN.{ℤ, pos, negsuc, natAbs, _-ℤ_}
 use lib.Signed.{leZ, nonNeg}
 use mir.Syntax.{w64}
-use mir.Val.{Fits, SFits, toZ, ofZ}
-use mir.ValLaws.{toZ-ofZ}
-
--- the machine reads a number back from its bits
-pub read-back : (z : ℤ) (b : Bool) → SFits w64 z → leZ (pos 0) (toZ w64 (ofZ w64 z)) ≡ b → leZ (pos 0) z ≡ b
-read-back z b h e = subst (λ (x : ℤ). leZ (pos 0) x ≡ b) (toZ-ofZ w64 z h) e
+use mir.Val.{Fits, SFits, ofZ}
 
 -- a number from 0 on is its own complement
 pub from-zero : (z : ℤ) → SFits w64 z → leZ (pos 0) z ≡ true → T (nonNeg z) × Fits w64 (natAbs z) × (natAbs z ≡ ofZ w64 z)
@@ -28,8 +23,3 @@ below-zero (pos n) h e = absurd (true≢false (sym (leb·zero n) ∙ e))
 below-zero (negsuc n) h e =
     let m : suc n - 1 ≡ n = omega arith in
     (n, h .sfits, cond-no (ltb (suc n) 1) (negsuc (1 - suc (suc n))) (pos (suc n - 1)) (le→nltb (suc n) 1 (omega arith)) ∙ ap pos m, omega arith)
-
--- -1 - k, of a k from 0 on
-pub minus-one-less : (k : ℕ) → negsuc 0 -ℤ pos k ≡ negsuc k
-minus-one-less zero = refl
-minus-one-less (suc k) = ap (λ (y : ℕ). negsuc (suc y)) (zero-add k)

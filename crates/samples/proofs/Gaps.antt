@@ -10,12 +10,9 @@ use lib.Signed.{mag, quotZ}
 use mir.Syntax.{w64}
 use mir.Val.{SFits, toZ, ofZ}
 use mir.ValLaws.{toZ-ofZ}
+use Rattle.float.proofs.SignedBounds.{mag-either}
 
 -- ---- the magnitude of a difference and of a quotient
-
-mag-either : (b : Bool) (x y : ℤ) (n : ℕ) → mag x ≤ n → mag y ≤ n → mag (cond b x y) ≤ n
-mag-either true x y n h k = h
-mag-either false x y n h k = k
 
 mag-sub : (a b n : ℕ) → a ≤ n → b ≤ n → mag (subℕ a b) ≤ n
 mag-sub a b n h k = mag-either (ltb a b) (negsuc (b - suc a)) (pos (a - b)) n (omega arith) (omega arith)

@@ -15,7 +15,7 @@ use Rattle.samples.proofs.Starts.{eqZ→eq, eqZ-refl}
 
 -- ---- the order of ℤ
 
-<ℤ-trans : {a b c : ℤ} → a <ℤ b → b <ℤ c → a <ℤ c
+pub <ℤ-trans : {a b c : ℤ} → a <ℤ b → b <ℤ c → a <ℤ c
 <ℤ-trans {a} {b} {c} h k = record { lt = parts-lt a c (omega (arith, lt-parts a b (h .lt), lt-parts b c (k .lt))) }
 
 neither : (a b : ℤ) → T (not (ltZ a b)) → T (not (ltZ b a)) → a ≡ b

@@ -2,7 +2,7 @@
 -- Assumes nothing.
 use borrow.Author.Needs.{needs}
 use mathlib.Core.Path.{_∙_}
-use Rattle.replay.proofs.Doubles.{no-nan-bits, nan-bits, nan-made}
+use Rattle.float.proofs.Nans.{no-nan-bits, nan-bits, nan-made}
 use Rattle.replay.proofs.numbers.double.Statement.{statement}
 use Rattle.replay.proofs.numbers.double.Tie as tie
 

@@ -7,7 +7,7 @@ use lib.IntN.{ℤ, negsuc, _-ℤ_}
 use mir.Syntax.{w64}
 use mir.Val.{SFits, toZ, ofZ}
 use mir.ValLaws.{toZ-ofZ, toZ-pos, toZ-neg}
-use Rattle.replay.proofs.Signs.{minus-one-less}
+use Rattle.float.proofs.WholeParts.{minus-one-less}
 use Rattle.replay.proofs.numbers.signed.Statement.{statement}
 use Rattle.replay.proofs.numbers.signed.Tie as tie
 

@@ -10,7 +10,8 @@ use lib.Signed.{nonNeg}
 use mir.Syntax.{w64}
 use mir.Val.{Fits, SFits, toZ, ofZ}
 use mir.ValLaws.{toZ-ofZ, toZ-pos}
-use Rattle.replay.proofs.Signs.{read-back, from-zero, below-zero}
+use Rattle.float.proofs.Integers.{read-back}
+use Rattle.replay.proofs.Signs.{from-zero, below-zero}
 use Rattle.replay.proofs.numbers.unsigned.Statement.{statement}
 use Rattle.replay.proofs.numbers.unsigned.Tie as tie
 

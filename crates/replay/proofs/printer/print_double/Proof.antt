@@ -1,6 +1,6 @@
 -- A double that equals itself is no NaN, so its bits can be taken. Assumes nothing.
 use borrow.Author.Needs.{needs}
-use Rattle.replay.proofs.Doubles.{no-nan}
+use Rattle.float.proofs.Nans.{no-nan}
 use Rattle.replay.proofs.printer.print_double.Statement.{statement}
 use Rattle.replay.proofs.printer.print_double.Tie as tie
 
