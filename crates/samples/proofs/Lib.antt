@@ -13,3 +13,5 @@ mod Runs
 mod Nexts
 mod Areas
 mod Filling
+mod Picking
+mod Reaches
