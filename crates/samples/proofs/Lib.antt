@@ -15,3 +15,4 @@ mod Areas
 mod Filling
 mod Picking
 mod Reaches
+mod Parting
