@@ -16,3 +16,4 @@ mod Filling
 mod Picking
 mod Reaches
 mod Parting
+mod Copies
