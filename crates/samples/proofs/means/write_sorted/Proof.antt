@@ -1,11 +1,8 @@
 -- The copy, sorted, has the means of the recording; where its seconds should fall all the same, the recording's own are written second by second. Assumes nothing.
 use mathlib.Core.Path.{_≡_, refl, sym, ap, _∙_}
 use mathlib.Core.List.{List}
-use Prim.Native.Nat.{_≤_}
 use native.Mathlib.Omega.{arith}
-use lib.IntN.{ℤ}
 use lib.ListN.{length, take}
-use lib.Ieee.{Float}
 use Rattle.checks.specs.Outcome.{written}
 use Rattle.samples.specs.Means.{Sample, instants, frequencies}
 use Rattle.samples.proofs.Copies.{copied, copy-reached, Sorted, sorted-copy}
@@ -55,10 +52,14 @@ sort-by-seconds-requires c κs =
     let us = c .before .before .before .before .before .before .before .before .before .copy-instants in
     let gs = c .before .before .before .before .before .before .copy-frequencies in
     let room = s .pre .1 .1 in
-    let few = s .pre .0 .few in (
-      copy-reached (s .args .instants .now) (s .args .frequencies .now) (s .pre .0) (us .last .1 .1 .0) (gs .last .1 .1 .0) (instants-copied c) (frequencies-copied c),
-      (omega (arith, few, room .0, us .kept .1 .1 .0), omega (arith, few, room .1, gs .kept .1 .1 .0), omega (arith, few, room .2), omega (arith, few, room .3)),
-    )
+    let few = s .pre .0 .few in
+    record {
+      limited = copy-reached (s .args .instants .now) (s .args .frequencies .now) (s .pre .0) (us .last .1 .1 .0) (gs .last .1 .1 .0) (instants-copied c) (frequencies-copied c);
+      instants = omega (arith, few, room .0, us .kept .1 .1 .0);
+      frequencies = omega (arith, few, room .1, gs .kept .1 .1 .0);
+      spare-instants = omega (arith, few, room .2);
+      spare-frequencies = omega (arith, few, room .3);
+    }
 
 slice-reshare-prefix-never-falls : tie.Need-slice-reshare-prefix-never-falls
 slice-reshare-prefix-never-falls c = search needs
