@@ -13,3 +13,7 @@ mod Runs
 mod Nexts
 mod Areas
 mod Filling
+mod Picking
+mod Reaches
+mod Parting
+mod Copies

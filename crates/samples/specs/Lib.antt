@@ -4,3 +4,4 @@ pub mod Sums
 pub mod Scans
 pub mod Approach
 pub mod Slant
+pub mod Sorting

@@ -2,6 +2,7 @@
 mod approach;
 mod means;
 mod slant;
+mod sorting;
 
 pub use approach::Approach;
 pub use approach::Slope;

@@ -6,11 +6,14 @@ ghost use Prim.Native.Nat.{_≤_, _<_};
 ghost use lib.IntN.{pos, natAbs, _+ℤ_};
 ghost use lib.Signed.{ltZ, leZ};
 ghost use lib.ListN.{length, set};
-ghost use Rattle.checks.specs.Limits.{farthestInstant};
+ghost use Rattle.checks.specs.Limits.{mostSamples, farthestInstant};
 ghost use Rattle.checks.specs.Outcome.{written};
 ghost use Rattle.samples.specs.Means.{countOf, meansCount, meansInstants, meansFrequencies, recording, second, wholeSecond, eqZ, bin, meanOf, means};
 ghost use Rattle.samples.specs.Sums.{startOf, sumsOf, added, addedIn, meanFrom, asMean, Room, Held, Start, Recorded, instantsOfMeans, frequenciesOfMeans};
 ghost use Rattle.samples.specs.Scans.{Reached, secondAt, NeverFalls, Begins, Run, Next};
+use crate::sorting::copy_frequencies;
+use crate::sorting::copy_instants;
+use crate::sorting::sort_by_seconds;
 
 // Nanoseconds in a second.
 const SECOND: i64 = 1_000_000_000;
@@ -337,6 +340,75 @@ fn write_seconds(
     count
 }
 
+// The means by a sorted copy of the samples in the first two of four arrays: run by run if its seconds never fall, as they do not after
+// the sort; that they do not is tested here and not proved.
+fn write_sorted(
+    instants: &[i64],
+    frequencies: &[f64],
+    mean_instants: &mut [i64],
+    mean_frequencies: &mut [f64],
+    sorted_instants: &mut [i64],
+    sorted_frequencies: &mut [f64],
+    spare_instants: &mut [i64],
+    spare_frequencies: &mut [f64],
+) -> usize
+    requires { ⌜ Recorded (now instants) (now frequencies) ⌝ }
+    requires { ⌜ (length (now instants) ≤ length (now «mean_instants»)) × (length (now instants) ≤ length (now «mean_frequencies»)) ⌝ }
+    requires { ⌜ (mostSamples ≤ length (now «sorted_instants»)) × (mostSamples ≤ length (now «sorted_frequencies»)) × (mostSamples ≤ length (now «spare_instants»)) × (mostSamples ≤ length (now «spare_frequencies»)) ⌝ }
+    ensures { λ r. ⌜ r ≡ length (means (recording (now (instants .entry)) (now (frequencies .entry)))) ⌝ }
+    ensures { λ r. ⌜ now («mean_instants» .exit) ≡ written (instantsOfMeans (now (instants .entry)) (now (frequencies .entry))) (now («mean_instants» .entry)) ⌝ }
+    ensures { λ r. ⌜ now («mean_frequencies» .exit) ≡ written (frequenciesOfMeans (now (instants .entry)) (now (frequencies .entry))) (now («mean_frequencies» .entry)) ⌝ }
+{
+    let count = instants.len();
+    copy_instants(instants, count, &mut *sorted_instants, 0);
+    copy_frequencies(frequencies, count, &mut *sorted_frequencies, 0);
+    sort_by_seconds(
+        &mut *sorted_instants,
+        &mut *sorted_frequencies,
+        &mut *spare_instants,
+        &mut *spare_frequencies,
+        count,
+    );
+    if never_falls(&sorted_instants[..count]) {
+        return write_runs(
+            &sorted_instants[..count],
+            &sorted_frequencies[..count],
+            mean_instants,
+            mean_frequencies,
+        );
+    }
+    write_seconds(instants, frequencies, mean_instants, mean_frequencies)
+}
+
+// The means of samples whose seconds fall somewhere, with room for the sort.
+fn write_shuffled(
+    instants: &[i64],
+    frequencies: &[f64],
+    mean_instants: &mut [i64],
+    mean_frequencies: &mut [f64],
+) -> usize
+    requires { ⌜ Recorded (now instants) (now frequencies) ⌝ }
+    requires { ⌜ (length (now instants) ≤ length (now «mean_instants»)) × (length (now instants) ≤ length (now «mean_frequencies»)) ⌝ }
+    ensures { λ r. ⌜ r ≡ length (means (recording (now (instants .entry)) (now (frequencies .entry)))) ⌝ }
+    ensures { λ r. ⌜ now («mean_instants» .exit) ≡ written (instantsOfMeans (now (instants .entry)) (now (frequencies .entry))) (now («mean_instants» .entry)) ⌝ }
+    ensures { λ r. ⌜ now («mean_frequencies» .exit) ≡ written (frequenciesOfMeans (now (instants .entry)) (now (frequencies .entry))) (now («mean_frequencies» .entry)) ⌝ }
+{
+    let mut sorted_instants = [0i64; 4096];
+    let mut sorted_frequencies = [0.0; 4096];
+    let mut spare_instants = [0i64; 4096];
+    let mut spare_frequencies = [0.0; 4096];
+    write_sorted(
+        instants,
+        frequencies,
+        mean_instants,
+        mean_frequencies,
+        &mut sorted_instants,
+        &mut sorted_frequencies,
+        &mut spare_instants,
+        &mut spare_frequencies,
+    )
+}
+
 // The means of samples that pass the checks, at the front of the two areas, seconds rising; answers how many there are.
 pub(crate) fn write_means(
     instants: &[i64],
@@ -353,7 +425,7 @@ pub(crate) fn write_means(
     if never_falls(instants) {
         return write_runs(instants, frequencies, mean_instants, mean_frequencies);
     }
-    write_seconds(instants, frequencies, mean_instants, mean_frequencies)
+    write_shuffled(instants, frequencies, mean_instants, mean_frequencies)
 }
 
 // The means of the samples at the front of the two areas, seconds rising; the rest of each area stays, and a refusal writes nothing.

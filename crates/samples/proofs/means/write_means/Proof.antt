@@ -1,4 +1,4 @@
--- By the scan: run by run where the seconds never fall, second by second otherwise. Assumes nothing.
+-- By the scan: run by run where the seconds never fall, by a sorted copy otherwise. Assumes nothing.
 use borrow.Author.Needs.{needs}
 use Rattle.samples.proofs.means.write_means.Statement.{statement}
 use Rattle.samples.proofs.means.write_means.Tie as tie
@@ -20,8 +20,8 @@ same-length-2 c = search needs
 returns : tie.Need-returns
 returns c = search needs
 
-write-seconds-requires : tie.Need-write-seconds-requires
-write-seconds-requires c κs = search needs
+write-shuffled-requires : tie.Need-write-shuffled-requires
+write-shuffled-requires c κs = search needs
 
 same-length-3 : tie.Need-same-length-3
 same-length-3 c = search needs
@@ -41,7 +41,7 @@ write-means-spec =
     same-length
     same-length-2
     returns
-    write-seconds-requires
+    write-shuffled-requires
     same-length-3
     same-length-4
     returns-2)
