@@ -1,6 +1,5 @@
 -- The difference of two instants within 4.1e18 of 1970, which holds those within 4e18 and those some seconds from them, fits an i64, and so does its quotient; each is the definition's. Assumes nothing.
 use mathlib.Core.Path.{_≡_, sym, ap, ap₂, _∙_, subst}
-use mathlib.Core.Bool.{Bool, true, false, cond}
 use Prim.Native.Nat.{ℕ, zero, suc, _+_, _-_, _/_, _≤_}
 use native.Mathlib.Nat.{div-le-self, lt-of-le-of-lt, le-of-suc-le-suc}
 use native.Mathlib.Omega.{arith}

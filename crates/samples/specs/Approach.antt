@@ -9,7 +9,6 @@ use lib.Ieee.{Float, nan, inf, fin, binary64, sub, div, lt}
 use Rattle.float.specs.Conversions.{nearestOf}
 use Rattle.checks.specs.Outcome.{Outcome, refused, answered, outcome, unlessRefused}
 use Rattle.checks.specs.Entries.{firstFailing, samplesChecks}
-use Rattle.units.specs.declared.Nanoseconds.{Nanoseconds}
 use Rattle.float.specs.Numbers.{nought}
 use Rattle.samples.specs.declared.approach.Approach.{Approach}
 use Rattle.samples.specs.declared.approach.Approach.the-variants.{At}

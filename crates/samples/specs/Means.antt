@@ -1,13 +1,13 @@
 -- `downsample_data`: "one for each second that holds a sample, seconds rising". An instant is a signed count of nanoseconds since 1970-01-01.
 use Prim.Native.Nat.{ℕ}
 use mathlib.Core.Path.{_≡_}
-use mathlib.Core.Bool.{Bool, true, false, cond}
+use mathlib.Core.Bool.{Bool, false, cond}
 use mathlib.Core.List.{List, [], _∷_, map}
 use lib.Dec.{eqb}
 use lib.IntN.{ℤ, pos, negsuc, _+ℤ_, _-ℤ_, _*ℤ_}
 use lib.Signed.{ltZ, quotZ, shrZ}
 use lib.ListN.{length}
-use lib.Ieee.{Float, fin, binary64, add, div}
+use lib.Ieee.{Float, binary64, add, div}
 use Rattle.float.specs.Conversions.{nearestOf}
 use Rattle.checks.specs.Outcome.{Outcome, refused, answered, outcome, area}
 use Rattle.checks.specs.Entries.{firstFailing, meansChecks}

@@ -1,5 +1,5 @@
 -- `estimate_slant_range`: f0·7585²/(299792458·|slope|), in metres.
-use mathlib.Core.Bool.{true, false, cond}
+use mathlib.Core.Bool.{false, cond}
 use lib.IntN.{pos, negsuc}
 use lib.Ieee.{Float, fin, binary64, mul, div, lt}
 use Rattle.float.specs.Signs.{magnitudeOf}
