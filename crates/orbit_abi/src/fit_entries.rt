@@ -43,7 +43,9 @@ pub extern "C" fn orbit_fit_satellite(
     report: &mut [f64; 3],
     count: &mut u64,
 ) -> u8
-    ensures { λ r. ⌜ (r ≡ refusalIn (satelliteFit (inputsOf evenTolerance (now (instants .entry)) (now (positions .entry)) (observerOf ox oy oz) f0) (now (samples .entry)) (now (frequencies .entry)) measured)) × (now (report .exit) ≡ areaOf reportNumbers (satelliteFit (inputsOf evenTolerance (now (instants .entry)) (now (positions .entry)) (observerOf ox oy oz) f0) (now (samples .entry)) (now (frequencies .entry)) measured) (now (report .entry))) × (now (count .exit) ≡ areaOf (λ (x : Report). x .count) (satelliteFit (inputsOf evenTolerance (now (instants .entry)) (now (positions .entry)) (observerOf ox oy oz) f0) (now (samples .entry)) (now (frequencies .entry)) measured) (now (count .entry))) ⌝ }
+    ensures { λ r. ⌜ r ≡ refusalIn (satelliteFit (inputsOf evenTolerance (now (instants .entry)) (now (positions .entry)) (observerOf ox oy oz) f0) (now (samples .entry)) (now (frequencies .entry)) measured) ⌝ }
+    ensures { λ r. ⌜ now (report .exit) ≡ areaOf reportNumbers (satelliteFit (inputsOf evenTolerance (now (instants .entry)) (now (positions .entry)) (observerOf ox oy oz) f0) (now (samples .entry)) (now (frequencies .entry)) measured) (now (report .entry)) ⌝ }
+    ensures { λ r. ⌜ now (count .exit) ≡ areaOf (λ (x : Report). x .count) (satelliteFit (inputsOf evenTolerance (now (instants .entry)) (now (positions .entry)) (observerOf ox oy oz) f0) (now (samples .entry)) (now (frequencies .entry)) measured) (now (count .entry)) ⌝ }
 {
     let observer = Observer {
         x: Metres(ox),
@@ -78,7 +80,11 @@ pub extern "C" fn orbit_pass(
     report: &mut [f64; 3],
     count: &mut u64,
 ) -> u8
-    ensures { λ r. ⌜ (r ≡ refusalIn (passReport (inputsOf evenTolerance (now (instants .entry)) (now (positions .entry)) (observerOf ox oy oz) f0) (now (samples .entry)) (now (frequencies .entry)) (now («mean_instants» .entry)) (now («mean_frequencies» .entry)))) × (now (report .exit) ≡ areaOf reportNumbers (passReport (inputsOf evenTolerance (now (instants .entry)) (now (positions .entry)) (observerOf ox oy oz) f0) (now (samples .entry)) (now (frequencies .entry)) (now («mean_instants» .entry)) (now («mean_frequencies» .entry))) (now (report .entry))) × (now (count .exit) ≡ areaOf (λ (x : Report). x .count) (passReport (inputsOf evenTolerance (now (instants .entry)) (now (positions .entry)) (observerOf ox oy oz) f0) (now (samples .entry)) (now (frequencies .entry)) (now («mean_instants» .entry)) (now («mean_frequencies» .entry))) (now (count .entry))) × (now («mean_instants» .exit) ≡ passInstants (inputsOf evenTolerance (now (instants .entry)) (now (positions .entry)) (observerOf ox oy oz) f0) (now (samples .entry)) (now (frequencies .entry)) (now («mean_instants» .entry)) (now («mean_frequencies» .entry))) × (now («mean_frequencies» .exit) ≡ passFrequencies (inputsOf evenTolerance (now (instants .entry)) (now (positions .entry)) (observerOf ox oy oz) f0) (now (samples .entry)) (now (frequencies .entry)) (now («mean_instants» .entry)) (now («mean_frequencies» .entry))) ⌝ }
+    ensures { λ r. ⌜ r ≡ refusalIn (passReport (inputsOf evenTolerance (now (instants .entry)) (now (positions .entry)) (observerOf ox oy oz) f0) (now (samples .entry)) (now (frequencies .entry)) (now («mean_instants» .entry)) (now («mean_frequencies» .entry))) ⌝ }
+    ensures { λ r. ⌜ now (report .exit) ≡ areaOf reportNumbers (passReport (inputsOf evenTolerance (now (instants .entry)) (now (positions .entry)) (observerOf ox oy oz) f0) (now (samples .entry)) (now (frequencies .entry)) (now («mean_instants» .entry)) (now («mean_frequencies» .entry))) (now (report .entry)) ⌝ }
+    ensures { λ r. ⌜ now (count .exit) ≡ areaOf (λ (x : Report). x .count) (passReport (inputsOf evenTolerance (now (instants .entry)) (now (positions .entry)) (observerOf ox oy oz) f0) (now (samples .entry)) (now (frequencies .entry)) (now («mean_instants» .entry)) (now («mean_frequencies» .entry))) (now (count .entry)) ⌝ }
+    ensures { λ r. ⌜ now («mean_instants» .exit) ≡ passInstants (inputsOf evenTolerance (now (instants .entry)) (now (positions .entry)) (observerOf ox oy oz) f0) (now (samples .entry)) (now (frequencies .entry)) (now («mean_instants» .entry)) (now («mean_frequencies» .entry)) ⌝ }
+    ensures { λ r. ⌜ now («mean_frequencies» .exit) ≡ passFrequencies (inputsOf evenTolerance (now (instants .entry)) (now (positions .entry)) (observerOf ox oy oz) f0) (now (samples .entry)) (now (frequencies .entry)) (now («mean_instants» .entry)) (now («mean_frequencies» .entry)) ⌝ }
 {
     let observer = Observer {
         x: Metres(ox),

@@ -21,7 +21,10 @@ pub extern "C" fn orbit_downsample_data(
     mean_frequencies: &mut [f64],
     count: &mut u64,
 ) -> u8
-    ensures { λ r. ⌜ (r ≡ refusalIn (meansCount (now (instants .entry)) (now (frequencies .entry)) (now («mean_instants» .entry)) (now («mean_frequencies» .entry)))) × (now (count .exit) ≡ areaOf (λ (n : ℕ). n) (meansCount (now (instants .entry)) (now (frequencies .entry)) (now («mean_instants» .entry)) (now («mean_frequencies» .entry))) (now (count .entry))) × (now («mean_instants» .exit) ≡ meansInstants (now (instants .entry)) (now (frequencies .entry)) (now («mean_instants» .entry)) (now («mean_frequencies» .entry))) × (now («mean_frequencies» .exit) ≡ meansFrequencies (now (instants .entry)) (now (frequencies .entry)) (now («mean_instants» .entry)) (now («mean_frequencies» .entry))) ⌝ }
+    ensures { λ r. ⌜ r ≡ refusalIn (meansCount (now (instants .entry)) (now (frequencies .entry)) (now («mean_instants» .entry)) (now («mean_frequencies» .entry))) ⌝ }
+    ensures { λ r. ⌜ now (count .exit) ≡ areaOf (λ (n : ℕ). n) (meansCount (now (instants .entry)) (now (frequencies .entry)) (now («mean_instants» .entry)) (now («mean_frequencies» .entry))) (now (count .entry)) ⌝ }
+    ensures { λ r. ⌜ now («mean_instants» .exit) ≡ meansInstants (now (instants .entry)) (now (frequencies .entry)) (now («mean_instants» .entry)) (now («mean_frequencies» .entry)) ⌝ }
+    ensures { λ r. ⌜ now («mean_frequencies» .exit) ≡ meansFrequencies (now (instants .entry)) (now (frequencies .entry)) (now («mean_instants» .entry)) (now («mean_frequencies» .entry)) ⌝ }
 {
     let means = samples::downsample_data(instants, frequencies, mean_instants, mean_frequencies);
     match means {

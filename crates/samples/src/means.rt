@@ -435,7 +435,9 @@ pub fn downsample_data(
     mean_instants: &mut [i64],
     mean_frequencies: &mut [f64],
 ) -> Downsampled
-    ensures { λ r. ⌜ (countOf r ≡ meansCount (now (instants .entry)) (now (frequencies .entry)) (now («mean_instants» .entry)) (now («mean_frequencies» .entry))) × (now («mean_instants» .exit) ≡ meansInstants (now (instants .entry)) (now (frequencies .entry)) (now («mean_instants» .entry)) (now («mean_frequencies» .entry))) × (now («mean_frequencies» .exit) ≡ meansFrequencies (now (instants .entry)) (now (frequencies .entry)) (now («mean_instants» .entry)) (now («mean_frequencies» .entry))) ⌝ }
+    ensures { λ r. ⌜ countOf r ≡ meansCount (now (instants .entry)) (now (frequencies .entry)) (now («mean_instants» .entry)) (now («mean_frequencies» .entry)) ⌝ }
+    ensures { λ r. ⌜ now («mean_instants» .exit) ≡ meansInstants (now (instants .entry)) (now (frequencies .entry)) (now («mean_instants» .entry)) (now («mean_frequencies» .entry)) ⌝ }
+    ensures { λ r. ⌜ now («mean_frequencies» .exit) ≡ meansFrequencies (now (instants .entry)) (now (frequencies .entry)) (now («mean_instants» .entry)) (now («mean_frequencies» .entry)) ⌝ }
 {
     let refusal = checks::refuse_means(instants, frequencies, mean_instants, mean_frequencies);
     if refusal != 0 {

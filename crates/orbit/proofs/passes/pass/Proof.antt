@@ -69,10 +69,10 @@ abbrev frequency-area : tie.After-downsample-data → List Float
 frequency-area c = c .downsample-data .last .1 .1 .1 .0
 
 instants-written : (c : tie.After-downsample-data) → instant-area c ≡ written (instants (means-of (start-of c))) (start-of c .args .mean-instants .now)
-instants-written c = c .downsample-data .ensures .1 ∙ ap (λ (n : ℕ). area n (instants (means-of (start-of c))) (start-of c .args .mean-instants .now)) (no-refusal c)
+instants-written c = c .downsample-data .ensures .1 .0 ∙ ap (λ (n : ℕ). area n (instants (means-of (start-of c))) (start-of c .args .mean-instants .now)) (no-refusal c)
 
 frequencies-written : (c : tie.After-downsample-data) → frequency-area c ≡ written (frequencies (means-of (start-of c))) (start-of c .args .mean-frequencies .now)
-frequencies-written c = c .downsample-data .ensures .2 ∙ ap (λ (n : ℕ). area n (frequencies (means-of (start-of c))) (start-of c .args .mean-frequencies .now)) (no-refusal c)
+frequencies-written c = c .downsample-data .ensures .1 .1 ∙ ap (λ (n : ℕ). area n (frequencies (means-of (start-of c))) (start-of c .args .mean-frequencies .now)) (no-refusal c)
 
 -- and the pass promises the same of them
 instants-promised : (c : tie.After-downsample-data) → instant-area c ≡ area (refusal-of (start-of c)) (instants (means-of (start-of c))) (start-of c .args .mean-instants .now)
@@ -115,8 +115,10 @@ returns c =
     let call = c .before .refuse-pass in
     let s = c .before .before .before .before .before .before .before in (
       unless-refused (call .result) (refusal-of s) (passOutcome (inputs-of s) (samples-of s)) (call .ensures) (c .if1 .taken),
-      area-refused (call .result) (refusal-of s) (instants (means-of s)) (s .args .mean-instants .now) (call .ensures) (c .if1 .taken),
-      area-refused (call .result) (refusal-of s) (frequencies (means-of s)) (s .args .mean-frequencies .now) (call .ensures) (c .if1 .taken),
+      (
+        area-refused (call .result) (refusal-of s) (instants (means-of s)) (s .args .mean-instants .now) (call .ensures) (c .if1 .taken),
+        area-refused (call .result) (refusal-of s) (frequencies (means-of s)) (s .args .mean-frequencies .now) (call .ensures) (c .if1 .taken),
+      ),
     )
 
 downsample-data-requires : tie.Need-downsample-data-requires
@@ -174,8 +176,7 @@ returns-2 c =
     let at = sampled-of means in
     let s = start-of at in (
       c .fit-means .ensures ∙ front-fitted at (means .means .given .0 .0) (told-is means) (inputs-of s) ∙ unless-none 0 (refusal-of s) (passOutcome (inputs-of s) (samples-of s)) (sym (none-failed at)) refl,
-      instants-promised at,
-      frequencies-promised at,
+      (instants-promised at, frequencies-promised at),
     )
 
 same-length-5 : tie.Need-same-length-5

@@ -34,7 +34,7 @@ returns c =
     let here = _∙_ {b = about s (toZ w64 (ofZ w64 (s .args .measured)))} (call .fit-satellite .ensures) (ap (about s) (toZ-ofZ w64 (s .args .measured) (s .fits .measured))) in
     let numbers = given-as reportNumbers fit (s .args .report .now) found _ _ (told .0, told .1) here in
     let counted = given-as (λ (x : Report). x .count) fit (s .args .count .now) found _ _ (told .0, told .2) here in
-    (numbers .0, numbers .1, counted .1)
+    (numbers .0, (numbers .1, counted .1))
 
 pub orbit-fit-satellite-spec : {M : Type 1} → statement M
 orbit-fit-satellite-spec = tie.close (tie.spec fit-satellite-requires fitted-into-requires returns)

@@ -33,7 +33,7 @@ returns c =
     let here = call .pass .ensures in
     let numbers = given-as reportNumbers outcome (args .report .now) found _ _ (told .0, told .1) (here .0) in
     let counted = given-as (λ (x : Report). x .count) outcome (args .count .now) found _ _ (told .0, told .2) (here .0) in
-    (numbers .0, numbers .1, counted .1, here .1, here .2)
+    (numbers .0, (numbers .1, (counted .1, (here .1 .0, here .1 .1))))
 
 pub orbit-pass-spec : {M : Type 1} → statement M
 orbit-pass-spec =

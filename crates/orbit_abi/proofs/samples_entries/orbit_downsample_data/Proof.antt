@@ -29,7 +29,7 @@ returns c =
     let args = called .before .before .before .before .before .args in
     let told = c .before .means .given in
     let here = answered-as (λ (n : ℕ). n) (meansCount (args .instants .now) (args .frequencies .now) (args .mean-instants .now) (args .mean-frequencies .now)) (args .count .now) (told .0 .0) _ refl (sym (ap countOf (told .1)) ∙ call .ensures .0) in
-    (here .0, here .1, call .ensures .1, call .ensures .2)
+    (here .0, (here .1, (call .ensures .1 .0, call .ensures .1 .1)))
 
 same-length-3 : tie.Need-same-length-3
 same-length-3 c = search needs
@@ -44,7 +44,7 @@ returns-2 c =
     let args = called .before .before .before .before .before .args in
     let told = c .before .means2 .given in
     let here = refused-as (λ (n : ℕ). n) (meansCount (args .instants .now) (args .frequencies .now) (args .mean-instants .now) (args .mean-frequencies .now)) (args .count .now) (told .0 .0) (sym (ap countOf (told .1)) ∙ call .ensures .0) in
-    (here .0, here .1, call .ensures .1, call .ensures .2)
+    (here .0, (here .1, (call .ensures .1 .0, call .ensures .1 .1)))
 
 pub orbit-downsample-data-spec : {M : Type 1} → statement M
 orbit-downsample-data-spec =

@@ -47,7 +47,7 @@ returns c =
     let m = meansRefusal ts fs is hs in
     let e = c .before .refuse-means .ensures in
     let f = c .if1 .taken in
-    (stops n m e f (length (means (recording ts fs))), stays n m e f (instantsOfMeans ts fs) is, stays n m e f (frequenciesOfMeans ts fs) hs)
+    (stops n m e f (length (means (recording ts fs))), (stays n m e f (instantsOfMeans ts fs) is, stays n m e f (frequenciesOfMeans ts fs) hs))
 
 write-means-requires : tie.Need-write-means-requires
 write-means-requires c κs =
@@ -76,8 +76,7 @@ returns-2 c =
     let z : 0 ≡ meansRefusal ts fs is hs = sym (sym (c .before .before .before .before .before .before .before .refuse-means .ensures) ∙ c .before .before .before .before .before .before .if1 .left) in
     let w = c .before .before .before .write-means .ensures in (
       ap answered (w .0) ∙ ap (λ (n : ℕ). outcome n (length (means (recording ts fs)))) z,
-      w .1 .0 ∙ ap (λ (n : ℕ). area n (instantsOfMeans ts fs) is) z,
-      w .1 .1 ∙ ap (λ (n : ℕ). area n (frequenciesOfMeans ts fs) hs) z,
+      (w .1 .0 ∙ ap (λ (n : ℕ). area n (instantsOfMeans ts fs) is) z, w .1 .1 ∙ ap (λ (n : ℕ). area n (frequenciesOfMeans ts fs) hs) z),
     )
 
 pub downsample-data-spec : {M : Type 1} → statement M
