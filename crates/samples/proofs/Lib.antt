@@ -16,4 +16,5 @@ mod Filling
 mod Picking
 mod Reaches
 mod Parting
+mod Ordering
 mod Copies

@@ -73,6 +73,10 @@ add-parts (pos a) (negsuc b) = omega (arith, sub-parts a (suc b))
 add-parts (negsuc a) (pos b) = omega (arith, sub-parts b (suc a))
 add-parts (negsuc a) (negsuc b) = omega arith
 
+-- the sum of a number below zero and one at least as far above it
+pub raised : (a n : ℕ) → suc a ≤ n → negsuc a +ℤ pos n ≡ pos (n - suc a)
+raised a n h = parts-eq (negsuc a +ℤ pos n) (pos (n - suc a)) (omega (arith, add-parts (negsuc a) (pos n)))
+
 pub over-neg : (a : ℤ) → over (negℤ a) ≡ under a
 over-neg (pos zero) = refl
 over-neg (pos (suc n)) = refl

@@ -38,7 +38,7 @@ sorted c =
     (omega (arith, s .pre .0 .few, room .1, gs .kept .1 .1 .0))
     (call .kept .0)
     (call .kept .1 .0)
-    (call .ensures)
+    (call .ensures .1)
 
 copy-instants-requires : tie.Need-copy-instants-requires
 copy-instants-requires c κs = search needs
