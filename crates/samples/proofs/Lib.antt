@@ -10,7 +10,6 @@ pub mod Recordings
 mod Sums
 mod Places
 mod Runs
-mod Nexts
 mod Areas
 mod Filling
 mod Picking

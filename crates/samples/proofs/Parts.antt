@@ -133,10 +133,6 @@ pub within-fits : (a : ℤ) → Within 9223372036854775808 9223372036854775807 a
 within-fits (pos a) h = record { sfits = omega (arith, h .0) }
 within-fits (negsuc a) h = record { sfits = omega (arith, h .1) }
 
-pub fits-within : (a : ℤ) → SFits w64 a → (over a ≤ 9223372036854775807) × (under a ≤ 9223372036854775808)
-fits-within (pos a) h = (omega (arith, h .sfits), omega arith)
-fits-within (negsuc a) h = (omega arith, omega (arith, h .sfits))
-
 pub abs-parts : (a : ℤ) → natAbs a ≡ over a + under a
 abs-parts (pos a) = omega arith
 abs-parts (negsuc a) = omega arith
