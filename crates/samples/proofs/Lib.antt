@@ -10,10 +10,10 @@ pub mod Recordings
 mod Sums
 mod Places
 mod Runs
-mod Nexts
 mod Areas
 mod Filling
 mod Picking
 mod Reaches
 mod Parting
+mod Ordering
 mod Copies

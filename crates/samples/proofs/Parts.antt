@@ -73,6 +73,10 @@ add-parts (pos a) (negsuc b) = omega (arith, sub-parts a (suc b))
 add-parts (negsuc a) (pos b) = omega (arith, sub-parts b (suc a))
 add-parts (negsuc a) (negsuc b) = omega arith
 
+-- the sum of a number below zero and one at least as far above it
+pub raised : (a n : ℕ) → suc a ≤ n → negsuc a +ℤ pos n ≡ pos (n - suc a)
+raised a n h = parts-eq (negsuc a +ℤ pos n) (pos (n - suc a)) (omega (arith, add-parts (negsuc a) (pos n)))
+
 pub over-neg : (a : ℤ) → over (negℤ a) ≡ under a
 over-neg (pos zero) = refl
 over-neg (pos (suc n)) = refl
@@ -128,10 +132,6 @@ within-parts lo hi (negsuc a) h = (omega arith, omega (arith, h .1))
 pub within-fits : (a : ℤ) → Within 9223372036854775808 9223372036854775807 a → SFits w64 a
 within-fits (pos a) h = record { sfits = omega (arith, h .0) }
 within-fits (negsuc a) h = record { sfits = omega (arith, h .1) }
-
-pub fits-within : (a : ℤ) → SFits w64 a → (over a ≤ 9223372036854775807) × (under a ≤ 9223372036854775808)
-fits-within (pos a) h = (omega (arith, h .sfits), omega arith)
-fits-within (negsuc a) h = (omega arith, omega (arith, h .sfits))
 
 pub abs-parts : (a : ℤ) → natAbs a ≡ over a + under a
 abs-parts (pos a) = omega arith

@@ -19,12 +19,12 @@ use Rattle.samples.proofs.Recordings.{noSample, record-length, record-a
 
 -- ---- the members of a list, by their places
 
-member-at : (l : List ℤ) (k : ℕ) → k < length l → List·Memᴰ (getD l k (pos 0)) l
+pub member-at : (l : List ℤ) (k : ℕ) → k < length l → List·Memᴰ (getD l k (pos 0)) l
 member-at [] k h = absurd (omega arith)
 member-at (x ∷ l) zero h = List·Memᴰ·head refl
 member-at (x ∷ l) (suc k) h = List·Memᴰ·tail (member-at l k (omega arith))
 
-place-of : (l : List ℤ) (x : ℤ) → List·Memᴰ x l → (k : ℕ) × (k < length l) × (getD l k (pos 0) ≡ x)
+pub place-of : (l : List ℤ) (x : ℤ) → List·Memᴰ x l → (k : ℕ) × (k < length l) × (getD l k (pos 0) ≡ x)
 place-of [] x m = absurd (List·Memᴰ·not-nil m)
 place-of (y ∷ l) x m = go (List·Memᴰ·cases-cons m) (place-of l x)
   where

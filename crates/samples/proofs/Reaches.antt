@@ -1,13 +1,13 @@
 -- The limit on the instants of the first samples of two slices: at a place, as the machine reads it, and of samples that are alike to others. Assumes nothing.
 use mathlib.Core.Path.{_≡_, refl, sym, ap, _∙_, subst}
 use mathlib.Core.Logic.{_⊎_, inl, inr}
-use mathlib.Core.Bool.{Bool, true, false, cond}
+use mathlib.Core.Bool.{Bool, true, false, not, cond}
 use mathlib.Core.List.{List, [], _∷_, List·Memᴰ, List·Memᴰ·head, List·Memᴰ·tail, List·Memᴰ·not-nil, List·Memᴰ·cases-cons}
 use Prim.Native.Nat.{ℕ, zero, suc, _≤_, _<_}
 use native.Mathlib.Omega.{arith}
-use lib.Dec.{T}
+use lib.Dec.{T, ltb, ltb→lt, nltb→le}
 use lib.IntN.{ℤ, pos, natAbs}
-use lib.ListN.{length, getD, take}
+use lib.ListN.{length, getD, take, List·getD-eq-default}
 use lib.Seq.{getD-take, length-take-le}
 use lib.Ieee.{Float}
 use mir.Syntax.{w64}
@@ -18,7 +18,7 @@ use Rattle.samples.specs.Scans.{Reached}
 use Rattle.samples.specs.Sorting.{SameBins}
 use Rattle.samples.proofs.Parts.{back, limit-fits}
 use Rattle.samples.proofs.Starts.{eq→eqZ}
-use Rattle.samples.proofs.Recordings.{record-instants}
+use Rattle.samples.proofs.Recordings.{record-length, record-instants}
 
 -- an instant among the first n that are within the limit
 pub reached-at : (n : ℕ) (ts : List ℤ) → Reached (take n ts) → (k : ℕ) → k < n → natAbs (getD ts k (pos 0)) ≤ farthestInstant
@@ -59,26 +59,40 @@ bin-mem s x (y ∷ ys) m = go (eqZ (wholeSecond (y .instant)) s) m (bin-mem s x 
 alike-mem : (S S′ : List Sample) → Alike S S′ → (x : Sample) → List·Memᴰ x S → List·Memᴰ x S′
 alike-mem S S′ a x m = bin-mem (wholeSecond (x .instant)) x S′ (subst (List·Memᴰ x) (a (wholeSecond (x .instant))) (mem-bin x S m))
 
--- ---- so they are within the same limit
+-- ---- so what holds of the others' instants holds of theirs
 
-reached-mem : (S : List Sample) → Reached (instants S) → (x : Sample) → List·Memᴰ x S → natAbs (x .instant) ≤ farthestInstant
-reached-mem [] r x m = absurd (List·Memᴰ·not-nil m)
-reached-mem (y ∷ ys) r x m = go (List·Memᴰ·cases-cons m) (reached-mem ys (λ k. r (suc k)) x)
-  where
-    go : (x ≡ y) ⊎ List·Memᴰ x ys → (List·Memᴰ x ys → natAbs (x .instant) ≤ farthestInstant) → natAbs (x .instant) ≤ farthestInstant
-    go (inl e) f = subst (λ (z : Sample). natAbs (z .instant) ≤ farthestInstant) (sym e) (r 0)
-    go (inr n) f = f n
+module _ (P : ℤ → Type 0) where
+  all-mem : (S : List Sample) → ((k : ℕ) → k < length S → P (getD (instants S) k (pos 0))) → (x : Sample) → List·Memᴰ x S → P (x .instant)
+  all-mem [] f x m = absurd (List·Memᴰ·not-nil m)
+  all-mem (y ∷ ys) f x m = go (List·Memᴰ·cases-cons m) (all-mem ys (λ k h. f (suc k) (omega arith)) x)
+    where
+      go : (x ≡ y) ⊎ List·Memᴰ x ys → (List·Memᴰ x ys → P (x .instant)) → P (x .instant)
+      go (inl e) r = subst (λ (z : Sample). P (z .instant)) (sym e) (f 0 (omega arith))
+      go (inr n) r = r n
 
-mem-reached : (S : List Sample) → ((x : Sample) → List·Memᴰ x S → natAbs (x .instant) ≤ farthestInstant) → Reached (instants S)
-mem-reached [] f k = omega arith
-mem-reached (x ∷ xs) f zero = f x (List·Memᴰ·head refl)
-mem-reached (x ∷ xs) f (suc k) = mem-reached xs (λ y m. f y (List·Memᴰ·tail m)) k
+  mem-all : (S : List Sample) → ((x : Sample) → List·Memᴰ x S → P (x .instant)) → (k : ℕ) → k < length S → P (getD (instants S) k (pos 0))
+  mem-all [] f k h = absurd (omega arith)
+  mem-all (x ∷ xs) f zero h = f x (List·Memᴰ·head refl)
+  mem-all (x ∷ xs) f (suc k) h = mem-all xs (λ y m. f y (List·Memᴰ·tail m)) k (omega arith)
 
 -- of the first n samples of two slices, before and after
-pub alike-reached : (n : ℕ) (ts : List ℤ) (fs : List Float) (ts′ : List ℤ) (fs′ : List Float) → n ≤ length ts → n ≤ length fs → n ≤ length ts′ → n ≤ length fs′ → SameBins n ts fs ts′ fs′ → Reached (take n ts) → Reached (take n ts′)
-alike-reached n ts fs ts′ fs′ h k h′ k′ a r =
-    let S = recording (take n ts) (take n fs) in
-    let S′ = recording (take n ts′) (take n fs′) in
-    let e = record-instants (take n ts) (take n fs) (length-take-le n fs k ∙ sym (length-take-le n ts h)) in
-    let e′ = record-instants (take n ts′) (take n fs′) (length-take-le n fs′ k′ ∙ sym (length-take-le n ts′ h′)) in
-    subst Reached e′ (mem-reached S′ (λ x m. reached-mem S (subst Reached (sym e) r) x (alike-mem S′ S a x m)))
+module _ (n : ℕ) (ts : List ℤ) (fs : List Float) (ts′ : List ℤ) (fs′ : List Float) (h : n ≤ length ts) (k : n ≤ length fs) (h′ : n ≤ length ts′) (k′ : n ≤ length fs′) (a : SameBins n ts fs ts′ fs′) where
+  pub alike-all : (P : ℤ → Type 0) → ((i : ℕ) → i < n → P (getD ts i (pos 0))) → (i : ℕ) → i < n → P (getD ts′ i (pos 0))
+  alike-all P f i u =
+      let S = recording (take n ts) (take n fs) in
+      let S′ = recording (take n ts′) (take n fs′) in
+      let same : length (take n fs) ≡ length (take n ts) = length-take-le n fs k ∙ sym (length-take-le n ts h) in
+      let same′ : length (take n fs′) ≡ length (take n ts′) = length-take-le n fs′ k′ ∙ sym (length-take-le n ts′ h′) in
+      let long : length S ≡ n = record-length (take n ts) (take n fs) same ∙ length-take-le n ts h in
+      let long′ : length S′ ≡ n = record-length (take n ts′) (take n fs′) same′ ∙ length-take-le n ts′ h′ in
+      let old : (j : ℕ) → j < length S → P (getD (instants S) j (pos 0)) = λ j v. subst P (sym (ap (λ (l : List ℤ). getD l j (pos 0)) (record-instants (take n ts) (take n fs) same) ∙ getD-take n ts j (pos 0) (omega arith))) (f j (omega arith)) in
+      subst P (ap (λ (l : List ℤ). getD l i (pos 0)) (record-instants (take n ts′) (take n fs′) same′) ∙ getD-take n ts′ i (pos 0) u)
+      (mem-all P S′ (λ x m. all-mem P S old x (alike-mem S′ S a x m)) i (omega arith))
+
+  -- the limit on them
+  pub alike-reached : Reached (take n ts) → Reached (take n ts′)
+  alike-reached r i = go (ltb i n) (ltb→lt i n) (nltb→le i n)
+    where
+      go : (v : Bool) → (T v → i < n) → (T (not v) → n ≤ i) → natAbs (getD (take n ts′) i (pos 0)) ≤ farthestInstant
+      go true f g = subst (λ (z : ℤ). natAbs z ≤ farthestInstant) (sym (getD-take n ts′ i (pos 0) (f tt))) (alike-all (λ t. natAbs t ≤ farthestInstant) (reached-at n ts r) i (f tt))
+      go false f g = subst (λ (z : ℤ). natAbs z ≤ farthestInstant) (sym (List·getD-eq-default (take n ts′) (pos 0) (omega (arith, g tt, length-take-le n ts′ h′)))) (omega arith)

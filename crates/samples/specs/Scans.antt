@@ -1,7 +1,6 @@
 -- What the scans below the entry say of the samples' instants, by their places.
 use Prim.Native.Nat.{ℕ, _+_, _≤_, _<_}
 use mathlib.Core.Path.{_≡_}
-use mathlib.Core.Logic.{_⊎_}
 use mathlib.Core.List.{List}
 use lib.IntN.{ℤ, pos, natAbs}
 use lib.Signed.{_<ℤ_, _≤ℤ_}
@@ -31,12 +30,3 @@ pub record Run (ts : List ℤ) (from end : ℕ) : Type 0 where
   pub inside : end ≤ length ts
   pub same : (k : ℕ) → from ≤ k → k < end → secondAt ts k ≡ secondAt ts from
   pub ended : end < length ts → secondAt ts end ≡ secondAt ts from → ⊥
-
--- past every instant
-abbrev pub late : ℤ
-late = pos 9223372036854775807
-
--- the least instant at or after a bound, or late where there is none
-pub record Next (bound : ℤ) (ts : List ℤ) (least : ℤ) : Type 0 where
-  pub first : (k : ℕ) → k < length ts → bound ≤ℤ getD ts k (pos 0) → least ≤ℤ getD ts k (pos 0)
-  pub found : (least ≡ late) ⊎ ((k : ℕ) × (k < length ts) × (getD ts k (pos 0) ≡ least) × (bound ≤ℤ least))

@@ -1,29 +1,22 @@
 // The means of a recording, one for each second that holds a sample.
 ghost use mathlib.Core.Path.{_≡_};
-ghost use mathlib.Core.Bool.{true, cond};
+ghost use mathlib.Core.Bool.{true};
 ghost use mathlib.Core.List.{[]};
 ghost use Prim.Native.Nat.{_≤_, _<_};
-ghost use lib.IntN.{pos, natAbs, _+ℤ_};
-ghost use lib.Signed.{ltZ, leZ};
+ghost use lib.IntN.{natAbs};
+ghost use lib.Signed.{ltZ};
 ghost use lib.ListN.{length, set};
 ghost use Rattle.checks.specs.Limits.{mostSamples, farthestInstant};
 ghost use Rattle.checks.specs.Outcome.{written};
-ghost use Rattle.samples.specs.Means.{countOf, meansCount, meansInstants, meansFrequencies, recording, second, wholeSecond, eqZ, bin, meanOf, means};
+ghost use Rattle.samples.specs.Means.{countOf, meansCount, meansInstants, meansFrequencies, recording, wholeSecond, eqZ, bin, meanOf, means};
 ghost use Rattle.samples.specs.Sums.{startOf, sumsOf, added, addedIn, meanFrom, asMean, Room, Held, Start, Recorded, instantsOfMeans, frequenciesOfMeans};
-ghost use Rattle.samples.specs.Scans.{Reached, secondAt, NeverFalls, Begins, Run, Next};
+ghost use Rattle.samples.specs.Scans.{Reached, secondAt, NeverFalls, Begins, Run};
 use crate::sorting::copy_frequencies;
 use crate::sorting::copy_instants;
 use crate::sorting::sort_by_seconds;
 
 // Nanoseconds in a second.
 const SECOND: i64 = 1_000_000_000;
-
-// The earliest and the latest instant that pass check 4, and a number past them.
-const EARLIEST: i64 = -4_000_000_000_000_000_000;
-
-const LATEST: i64 = 4_000_000_000_000_000_000;
-
-const NEVER: i64 = 0x7fff_ffff_ffff_ffff;
 
 // How many means were written, or the refusal (2, 3, 4).
 pub enum Downsampled {
@@ -201,33 +194,6 @@ fn run_end(instants: &[i64], from: usize, start: i64) -> usize
     end
 }
 
-// The earlier of the least so far and another instant, which counts only at or after the bound.
-fn nearer(least: i64, t: i64, bound: i64) -> i64
-    ensures { λ r. ⌜ r ≡ cond (leZ bound t) (cond (ltZ t least) t least) least ⌝ }
-{
-    if bound <= t {
-        if t < least {
-            return t;
-        }
-        return least;
-    }
-    least
-}
-
-// The least instant at or after the bound, or the number past every instant.
-fn next_instant(instants: &[i64], bound: i64) -> i64
-    requires { ⌜ Reached (now instants) ⌝ }
-    ensures { λ r. ⌜ Next bound (now (instants .entry)) r ⌝ }
-{
-    let mut least: i64 = NEVER;
-    let mut k: usize = 0;
-    while k < instants.len() {
-        least = nearer(least, instants[k], bound);
-        k += 1;
-    }
-    least
-}
-
 // The mean of the run that begins there, written at one place of the two areas; answers where the run ends.
 fn write_run(
     instants: &[i64],
@@ -253,32 +219,6 @@ fn write_run(
     mean_instants[place] = instant;
     mean_frequencies[place] = frequency;
     end
-}
-
-// The mean of the second of an instant, written at one place of the two areas; answers the least instant of a later second.
-fn write_second(
-    instants: &[i64],
-    frequencies: &[f64],
-    t: i64,
-    place: usize,
-    mean_instants: &mut [i64],
-    mean_frequencies: &mut [f64],
-) -> i64
-    requires { ⌜ Recorded (now instants) (now frequencies) ⌝ }
-    requires { ⌜ natAbs t ≤ farthestInstant ⌝ }
-    requires { ⌜ (place < length (now «mean_instants»)) × (place < length (now «mean_frequencies»)) ⌝ }
-    requires { ⌜ (bin (wholeSecond t) (recording (now instants) (now frequencies)) ≡ [] → ⊥) ⌝ }
-    ensures { λ r. ⌜ Next (startOf t +ℤ pos second) (now (instants .entry)) r ⌝ }
-    ensures { λ r. ⌜ now («mean_instants» .exit) ≡ set (now («mean_instants» .entry)) place (meanOf (bin (wholeSecond t) (recording (now (instants .entry)) (now (frequencies .entry)))) .instant) ⌝ }
-    ensures { λ r. ⌜ now («mean_frequencies» .exit) ≡ set (now («mean_frequencies» .entry)) place (meanOf (bin (wholeSecond t) (recording (now (instants .entry)) (now (frequencies .entry)))) .frequency) ⌝ }
-{
-    let start = second_start(t);
-    let mean = bin_mean(instants, frequencies, start);
-    let instant = mean.instant;
-    let frequency = mean.frequency;
-    mean_instants[place] = instant;
-    mean_frequencies[place] = frequency;
-    next_instant(instants, start + SECOND)
 }
 
 // The means run by run, where the seconds never fall: each sample is read a fixed number of times.
@@ -311,37 +251,7 @@ fn write_runs(
     count
 }
 
-// The means second by second, in any order of the samples: each next second is looked for among all of them.
-fn write_seconds(
-    instants: &[i64],
-    frequencies: &[f64],
-    mean_instants: &mut [i64],
-    mean_frequencies: &mut [f64],
-) -> usize
-    requires { ⌜ Recorded (now instants) (now frequencies) ⌝ }
-    requires { ⌜ (length (now instants) ≤ length (now «mean_instants»)) × (length (now instants) ≤ length (now «mean_frequencies»)) ⌝ }
-    ensures { λ r. ⌜ r ≡ length (means (recording (now (instants .entry)) (now (frequencies .entry)))) ⌝ }
-    ensures { λ r. ⌜ now («mean_instants» .exit) ≡ written (instantsOfMeans (now (instants .entry)) (now (frequencies .entry))) (now («mean_instants» .entry)) ⌝ }
-    ensures { λ r. ⌜ now («mean_frequencies» .exit) ≡ written (frequenciesOfMeans (now (instants .entry)) (now (frequencies .entry))) (now («mean_frequencies» .entry)) ⌝ }
-{
-    let mut count: usize = 0;
-    let mut t = next_instant(instants, EARLIEST);
-    while t <= LATEST {
-        t = write_second(
-            instants,
-            frequencies,
-            t,
-            count,
-            &mut *mean_instants,
-            &mut *mean_frequencies,
-        );
-        count += 1;
-    }
-    count
-}
-
-// The means by a sorted copy of the samples in the first two of four arrays: run by run if its seconds never fall, as they do not after
-// the sort; that they do not is tested here and not proved.
+// The means by a copy of the samples in the first two of four arrays: once it is sorted its seconds never fall, and it has the same means.
 fn write_sorted(
     instants: &[i64],
     frequencies: &[f64],
@@ -369,15 +279,12 @@ fn write_sorted(
         &mut *spare_frequencies,
         count,
     );
-    if never_falls(&sorted_instants[..count]) {
-        return write_runs(
-            &sorted_instants[..count],
-            &sorted_frequencies[..count],
-            mean_instants,
-            mean_frequencies,
-        );
-    }
-    write_seconds(instants, frequencies, mean_instants, mean_frequencies)
+    write_runs(
+        &sorted_instants[..count],
+        &sorted_frequencies[..count],
+        mean_instants,
+        mean_frequencies,
+    )
 }
 
 // The means of samples whose seconds fall somewhere, with room for the sort.

@@ -1,4 +1,4 @@
--- The copy, sorted, has the means of the recording; where its seconds should fall all the same, the recording's own are written second by second. Assumes nothing.
+-- The copy, sorted, has the means of the recording, and its seconds never fall, so that they are written run by run. Assumes nothing.
 use mathlib.Core.Path.{_≡_, refl, sym, ap, _∙_}
 use mathlib.Core.List.{List}
 use native.Mathlib.Omega.{arith}
@@ -38,7 +38,7 @@ sorted c =
     (omega (arith, s .pre .0 .few, room .1, gs .kept .1 .1 .0))
     (call .kept .0)
     (call .kept .1 .0)
-    (call .ensures)
+    (call .ensures .1)
 
 copy-instants-requires : tie.Need-copy-instants-requires
 copy-instants-requires c κs = search needs
@@ -61,33 +61,25 @@ sort-by-seconds-requires c κs =
       spare-frequencies = omega (arith, few, room .3);
     }
 
-slice-reshare-prefix-never-falls : tie.Need-slice-reshare-prefix-never-falls
-slice-reshare-prefix-never-falls c = search needs
-
-slice-aggregate-never-falls : tie.Need-slice-aggregate-never-falls
-slice-aggregate-never-falls c = sym (sorted (c .before .before .before .before .before .before .before) .instants-long)
-
-never-falls-requires : tie.Need-never-falls-requires
-never-falls-requires c κs = sorted (c .before .before .before .before .before .before .before) .recorded .limited
-
 slice-reshare-prefix-write-runs : tie.Need-slice-reshare-prefix-write-runs
 slice-reshare-prefix-write-runs c = search needs
 
 slice-aggregate-write-runs : tie.Need-slice-aggregate-write-runs
-slice-aggregate-write-runs c = sym (sorted (c .before .before .before .before .before .before .before .before .before .before) .instants-long)
+slice-aggregate-write-runs c = sym (sorted (c .before .before .before .before .before .before .before) .instants-long)
 
 slice-reshare-prefix-write-runs-2 : tie.Need-slice-reshare-prefix-write-runs-2
 slice-reshare-prefix-write-runs-2 c = search needs
 
 slice-aggregate-write-runs-2 : tie.Need-slice-aggregate-write-runs-2
-slice-aggregate-write-runs-2 c = sym (sorted (c .before .before .before .before .before .before .before .before .before .before .before) .frequencies-long)
+slice-aggregate-write-runs-2 c = sym (sorted (c .before .before .before .before .before .before .before .before) .frequencies-long)
 
 write-runs-requires : tie.Need-write-runs-requires
 write-runs-requires c κs =
-    let s = c .before .before .before .before .before .before .before .before .before .before .before .before .before .before .before .before .before .before .before .before .before .before .before .before .before .before .before .before .before in
-    let copy = sorted (c .before .before .before .before .before .before .before .before .before .before .before .before .before) in
+    let sort = c .before .before .before .before .before .before .before .before .before .before in
+    let s = sort .before .before .before .before .before .before .before .before .before .before .before .before .before .before .before .before in
+    let copy = sorted sort in
     let room = s .pre .1 .0 in
-    (copy .recorded, (c .before .before .before .before .before .never-falls .ensures (c .before .before .before .before .if1 .taken), (omega (arith, copy .instants-long, room .0), omega (arith, copy .instants-long, room .1))))
+    (copy .recorded, (sort .sort-by-seconds .ensures .0, (omega (arith, copy .instants-long, room .0), omega (arith, copy .instants-long, room .1))))
 
 same-length : tie.Need-same-length
 same-length c = search needs
@@ -109,34 +101,11 @@ same-length-6 c = search needs
 
 returns : tie.Need-returns
 returns c =
-    let s = c .before .before .before .before .before .before .before .before .before .before .before .before .before .before .before .before .before .before .before .before .before .before .before .before .before .before .before .before .before .before .before .before .before in
+    let sort = c .before .before .before .before .before .before .before .before .before .before .before .before .before .before in
+    let s = sort .before .before .before .before .before .before .before .before .before .before .before .before .before .before .before .before in
     let runs = c .before .before .before .write-runs .ensures in
-    let same = sorted (c .before .before .before .before .before .before .before .before .before .before .before .before .before .before .before .before .before) .same in
+    let same = sorted sort .same in
     (runs .0 ∙ ap length same, (runs .1 .0 ∙ ap (λ (S : List Sample). written (instants S) (s .args .mean-instants .now)) same, runs .1 .1 ∙ ap (λ (S : List Sample). written (frequencies S) (s .args .mean-frequencies .now)) same))
-
-write-seconds-requires : tie.Need-write-seconds-requires
-write-seconds-requires c κs = search needs
-
-same-length-7 : tie.Need-same-length-7
-same-length-7 c = search needs
-
-same-length-8 : tie.Need-same-length-8
-same-length-8 c = search needs
-
-same-length-9 : tie.Need-same-length-9
-same-length-9 c = search needs
-
-same-length-10 : tie.Need-same-length-10
-same-length-10 c = search needs
-
-same-length-11 : tie.Need-same-length-11
-same-length-11 c = search needs
-
-same-length-12 : tie.Need-same-length-12
-same-length-12 c = search needs
-
-returns-2 : tie.Need-returns-2
-returns-2 c = search needs
 
 pub write-sorted-spec : {M : Type 1} → statement M
 write-sorted-spec =
@@ -145,9 +114,6 @@ write-sorted-spec =
     copy-instants-requires
     copy-frequencies-requires
     sort-by-seconds-requires
-    slice-reshare-prefix-never-falls
-    slice-aggregate-never-falls
-    never-falls-requires
     slice-reshare-prefix-write-runs
     slice-aggregate-write-runs
     slice-reshare-prefix-write-runs-2
@@ -159,12 +125,4 @@ write-sorted-spec =
     same-length-4
     same-length-5
     same-length-6
-    returns
-    write-seconds-requires
-    same-length-7
-    same-length-8
-    same-length-9
-    same-length-10
-    same-length-11
-    same-length-12
-    returns-2)
+    returns)
