@@ -48,17 +48,38 @@ fn compare_means(total: &mut Total) {
     tally.finish(total);
 }
 
-/// Times the means of as many samples as there may be, ten to the second: in order and in any order.
+/// Times the means of samples ten to the second: as many as there may be in order, and several numbers of them in any order.
 pub fn time() -> Vec<Row> {
     let mut random = Random::new(51);
-    let steps = 0..SAMPLES as i64;
-    let in_order: Vec<i64> = steps.map(|k| PRESENT + k * SECOND / 10).collect();
-    let mut shuffled = in_order.clone();
-    random.shuffle(&mut shuffled);
-    vec![
-        time_means(&mut random, "downsample_data, 4096 in order", in_order),
-        time_means(&mut random, "downsample_data, 4096 shuffled", shuffled),
-    ]
+    let in_order = instants_in_order(SAMPLES);
+    let mut rows = vec![time_means(
+        &mut random,
+        "downsample_data, 4096 in order",
+        in_order,
+    )];
+    for (name, count) in [
+        ("downsample_data, 4096 shuffled", SAMPLES),
+        ("downsample_data, 65 shuffled", 65),
+        ("downsample_data, 16 shuffled", 16),
+    ] {
+        let instants = shuffled(&mut random, count);
+        rows.push(time_means(&mut random, name, instants));
+    }
+    rows
+}
+
+/// Instants a tenth of a second apart.
+fn instants_in_order(count: usize) -> Vec<i64> {
+    (0..count as i64)
+        .map(|k| PRESENT + k * SECOND / 10)
+        .collect()
+}
+
+/// The same in any order.
+fn shuffled(random: &mut Random, count: usize) -> Vec<i64> {
+    let mut instants = instants_in_order(count);
+    random.shuffle(&mut instants);
+    instants
 }
 
 /// The means of samples at these instants.

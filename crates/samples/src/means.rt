@@ -6,10 +6,11 @@ ghost use Prim.Native.Nat.{_≤_, _<_};
 ghost use lib.IntN.{natAbs};
 ghost use lib.Signed.{ltZ};
 ghost use lib.ListN.{length, set};
-ghost use Rattle.checks.specs.Limits.{mostSamples, farthestInstant};
+ghost use Rattle.checks.specs.Limits.{farthestInstant};
 ghost use Rattle.checks.specs.Outcome.{written};
 ghost use Rattle.samples.specs.Means.{countOf, meansCount, meansInstants, meansFrequencies, recording, wholeSecond, eqZ, bin, meanOf, means};
 ghost use Rattle.samples.specs.Sums.{startOf, sumsOf, added, addedIn, meanFrom, asMean, Room, Held, Start, Recorded, instantsOfMeans, frequenciesOfMeans};
+ghost use Rattle.samples.specs.Sorting.{fewSamples};
 ghost use Rattle.samples.specs.Scans.{Reached, secondAt, NeverFalls, Begins, Run};
 use crate::sorting::copy_frequencies;
 use crate::sorting::copy_instants;
@@ -264,7 +265,7 @@ fn write_sorted(
 ) -> usize
     requires { ⌜ Recorded (now instants) (now frequencies) ⌝ }
     requires { ⌜ (length (now instants) ≤ length (now «mean_instants»)) × (length (now instants) ≤ length (now «mean_frequencies»)) ⌝ }
-    requires { ⌜ (mostSamples ≤ length (now «sorted_instants»)) × (mostSamples ≤ length (now «sorted_frequencies»)) × (mostSamples ≤ length (now «spare_instants»)) × (mostSamples ≤ length (now «spare_frequencies»)) ⌝ }
+    requires { ⌜ (length (now instants) ≤ length (now «sorted_instants»)) × (length (now instants) ≤ length (now «sorted_frequencies»)) × (length (now instants) ≤ length (now «spare_instants»)) × (length (now instants) ≤ length (now «spare_frequencies»)) ⌝ }
     ensures { λ r. ⌜ r ≡ length (means (recording (now (instants .entry)) (now (frequencies .entry)))) ⌝ }
     ensures { λ r. ⌜ now («mean_instants» .exit) ≡ written (instantsOfMeans (now (instants .entry)) (now (frequencies .entry))) (now («mean_instants» .entry)) ⌝ }
     ensures { λ r. ⌜ now («mean_frequencies» .exit) ≡ written (frequenciesOfMeans (now (instants .entry)) (now (frequencies .entry))) (now («mean_frequencies» .entry)) ⌝ }
@@ -316,6 +317,36 @@ fn write_shuffled(
     )
 }
 
+// The same of few samples, with less room, which is sooner cleared.
+fn write_few_shuffled(
+    instants: &[i64],
+    frequencies: &[f64],
+    mean_instants: &mut [i64],
+    mean_frequencies: &mut [f64],
+) -> usize
+    requires { ⌜ Recorded (now instants) (now frequencies) ⌝ }
+    requires { ⌜ length (now instants) ≤ fewSamples ⌝ }
+    requires { ⌜ (length (now instants) ≤ length (now «mean_instants»)) × (length (now instants) ≤ length (now «mean_frequencies»)) ⌝ }
+    ensures { λ r. ⌜ r ≡ length (means (recording (now (instants .entry)) (now (frequencies .entry)))) ⌝ }
+    ensures { λ r. ⌜ now («mean_instants» .exit) ≡ written (instantsOfMeans (now (instants .entry)) (now (frequencies .entry))) (now («mean_instants» .entry)) ⌝ }
+    ensures { λ r. ⌜ now («mean_frequencies» .exit) ≡ written (frequenciesOfMeans (now (instants .entry)) (now (frequencies .entry))) (now («mean_frequencies» .entry)) ⌝ }
+{
+    let mut sorted_instants = [0i64; 64];
+    let mut sorted_frequencies = [0.0; 64];
+    let mut spare_instants = [0i64; 64];
+    let mut spare_frequencies = [0.0; 64];
+    write_sorted(
+        instants,
+        frequencies,
+        mean_instants,
+        mean_frequencies,
+        &mut sorted_instants,
+        &mut sorted_frequencies,
+        &mut spare_instants,
+        &mut spare_frequencies,
+    )
+}
+
 // The means of samples that pass the checks, at the front of the two areas, seconds rising; answers how many there are.
 pub(crate) fn write_means(
     instants: &[i64],
@@ -331,6 +362,9 @@ pub(crate) fn write_means(
 {
     if never_falls(instants) {
         return write_runs(instants, frequencies, mean_instants, mean_frequencies);
+    }
+    if instants.len() <= 64 {
+        return write_few_shuffled(instants, frequencies, mean_instants, mean_frequencies);
     }
     write_shuffled(instants, frequencies, mean_instants, mean_frequencies)
 }

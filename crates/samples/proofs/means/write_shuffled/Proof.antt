@@ -1,5 +1,4 @@
 -- The arrays have room for any recording that passes check 2. Assumes nothing.
-use native.Mathlib.Omega.{arith}
 use borrow.Author.Needs.{needs}
 use Rattle.samples.proofs.means.write_shuffled.Statement.{statement}
 use Rattle.samples.proofs.means.write_shuffled.Tie as tie
@@ -17,7 +16,7 @@ slice-aggregate-write-sorted-4 : tie.Need-slice-aggregate-write-sorted-4
 slice-aggregate-write-sorted-4 c = search needs
 
 write-sorted-requires : tie.Need-write-sorted-requires
-write-sorted-requires c κs = let s = c .before .before .before .before .before .before .before .before in (s .pre .0, (s .pre .1, (omega arith, omega arith, omega arith, omega arith)))
+write-sorted-requires c κs = let s = c .before .before .before .before .before .before .before .before in (s .pre .0, (s .pre .1, (s .pre .0 .few, s .pre .0 .few, s .pre .0 .few, s .pre .0 .few)))
 
 same-length : tie.Need-same-length
 same-length c = search needs
