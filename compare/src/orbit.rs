@@ -138,13 +138,16 @@ pub fn time() -> Vec<Row> {
     rows.push(time_evaluation());
     for (name, length, uneven) in [
         ("propagate_ecef, 10 rows even", 10, false),
+        ("propagate_ecef, 180 rows even", 180, false),
         ("propagate_ecef, 4096 rows even", 4096, false),
         ("propagate_ecef, 10 rows uneven", 10, true),
+        ("propagate_ecef, 180 rows uneven", 180, true),
         ("propagate_ecef, 4096 rows uneven", 4096, true),
     ] {
         rows.push(time_propagation(name, length, uneven));
     }
     rows.push(time_checks("its checks alone, 10 rows", 10));
+    rows.push(time_checks("its checks alone, 180 rows", 180));
     rows.push(time_checks("its checks alone, 4096 rows", 4096));
     rows.push(time_closest("find_pca_time, 180 rows even", false));
     rows.push(time_closest("find_pca_time, 180 rows uneven", true));

@@ -46,24 +46,45 @@ pub fn row_of_ours<I, A>(name: &'static str, inputs: &[I], mut ours: impl FnMut(
     }
 }
 
-/// Prints the table.
+/// The bar for ours over the Rust's: none for what has a hardware instruction on the Rust's side alone, or no Rust side.
+fn bar(name: &str) -> Option<f64> {
+    let starts = |word: &str| name.starts_with(word);
+    if starts("sqrt") || starts("nearest") || starts("truncated") || starts("its checks") {
+        None
+    } else if starts("fit_satellite") || starts("pass") {
+        Some(if name.contains("uneven") { 1.05 } else { 0.70 })
+    } else if starts("downsample_data") && name.contains("in order") {
+        Some(0.3)
+    } else {
+        Some(1.5)
+    }
+}
+
+/// Prints the table: each entry, both sides, the ratio, its bar, and what is above it.
 pub fn print(rows: &[Row]) {
+    let number = |x: f64| format!("{x:.2}");
+    let some = |x: Option<f64>| x.map_or(String::new(), number);
     println!();
-    print_line(["ns per call", "ours", "Rust", "ours / Rust"]);
+    print_line(["ns per call", "ours", "Rust", "ours / Rust", "bar", ""]);
     for row in rows {
-        let number = |x: f64| format!("{x:.2}");
-        let rust = row.rust.map_or(String::new(), number);
-        let ratio = row
-            .rust
-            .map_or(String::new(), |rust| number(row.ours / rust));
-        print_line([row.name, &number(row.ours), &rust, &ratio]);
+        let ratio = row.rust.map(|rust| row.ours / rust);
+        let bar = bar(row.name);
+        let above = ratio.zip(bar).is_some_and(|(ratio, bar)| ratio > bar);
+        print_line([
+            row.name,
+            &number(row.ours),
+            &some(row.rust),
+            &some(ratio),
+            &some(bar),
+            if above { "above" } else { "" },
+        ]);
     }
     println!();
 }
 
 /// Prints one line of the table.
-fn print_line([name, ours, rust, ratio]: [&str; 4]) {
-    println!("{name:36}{ours:>14}{rust:>14}{ratio:>14}");
+fn print_line([name, ours, rust, ratio, bar, above]: [&str; 6]) {
+    println!("{name:36}{ours:>14}{rust:>14}{ratio:>14}{bar:>8}  {above}");
 }
 
 /// The nanoseconds of a call in one round, which goes through all inputs again and again.
