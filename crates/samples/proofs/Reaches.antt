@@ -1,4 +1,4 @@
--- The limit on the instants of the first samples of two slices: at a place, as the machine reads it, and of samples that are alike to others. Assumes nothing.
+-- The limit on the instants of the first samples of two slices: at a place, and as the machine reads it. Samples that are alike to others are among them, so the limit and whatever else holds of the others' instants holds of theirs. Assumes nothing.
 use mathlib.Core.Path.{_≡_, refl, sym, ap, _∙_, subst}
 use mathlib.Core.Logic.{_⊎_, inl, inr}
 use mathlib.Core.Bool.{Bool, true, false, not, cond}
@@ -62,6 +62,7 @@ alike-mem S S′ a x m = bin-mem (wholeSecond (x .instant)) x S′ (subst (List�
 -- ---- so what holds of the others' instants holds of theirs
 
 module _ (P : ℤ → Type 0) where
+  -- of each sample, by its place
   all-mem : (S : List Sample) → ((k : ℕ) → k < length S → P (getD (instants S) k (pos 0))) → (x : Sample) → List·Memᴰ x S → P (x .instant)
   all-mem [] f x m = absurd (List·Memᴰ·not-nil m)
   all-mem (y ∷ ys) f x m = go (List·Memᴰ·cases-cons m) (all-mem ys (λ k h. f (suc k) (omega arith)) x)
@@ -70,6 +71,7 @@ module _ (P : ℤ → Type 0) where
       go (inl e) r = subst (λ (z : Sample). P (z .instant)) (sym e) (f 0 (omega arith))
       go (inr n) r = r n
 
+  -- and of each place, by its sample
   mem-all : (S : List Sample) → ((x : Sample) → List·Memᴰ x S → P (x .instant)) → (k : ℕ) → k < length S → P (getD (instants S) k (pos 0))
   mem-all [] f k h = absurd (omega arith)
   mem-all (x ∷ xs) f zero h = f x (List·Memᴰ·head refl)
