@@ -29,7 +29,7 @@ use Rattle.orbit.specs.Fit.{Trial, trial, usable, five, fifteen, tenth, 
 use Rattle.orbit.specs.Residuals.{Inputs, moved, residualIn, residualOf, keep, residuals, meanOver, deviation}
 use Rattle.orbit.specs.Passes.{measuredOf, passOutcome, passRefusal, passReport, passInstants, passFrequencies}
 use Rattle.orbit.proofs.FirstLeast.{at-least-the-winner's, place, and-both, NoCoarse, refused-exactly, Chosen, exactly-one}
-use Rattle.orbit.proofs.Stages.{Stage, around-stage, fine-stage, micro-stage, coarse-length, Listing, coarse-alone, listing, listing-length}
+use Rattle.orbit.proofs.ListOfShifts.{Stage, around-stage, fine-stage, micro-stage, coarse-length, Listing, coarse-alone, listing, listing-length}
 
 -- ---- the means
 

@@ -12,14 +12,14 @@ use Rattle.float.specs.Signs.{Within, magnitudeOf}
 use Rattle.float.proofs.Bounds.{sub-within}
 use Rattle.checks.specs.Outcome.{refused, answered}
 use Rattle.float.specs.Numbers.{nought, largestFinite}
-use Rattle.orbit.specs.declared.fit.LeastSoFar.{LeastSoFar}
+use Rattle.orbit.specs.declared.stages.LeastSoFar.{LeastSoFar}
 use Rattle.orbit.specs.Fitting.{Fitting}
 use Rattle.orbit.specs.Fit.{Trial, Best, noneYet, found, search, firstLeast, five, fifteen, tenth, twentieth, thousandth, hundredThousandth, shiftAt, shiftsFrom, around, coarse, fine, micro, report, reportOf, fitBy}
-use Rattle.orbit.specs.State.{stateOf, state, updates, stageFrom, reportFrom, finished}
+use Rattle.orbit.specs.Stages.{stateOf, state, updates, stageFrom, reportFrom, finished}
 use Rattle.orbit.proofs.Shifts.{weaken, stage-within}
 use Rattle.orbit.proofs.Updates.{state-search, updates-append, Below, below-search, updates-within}
 use Rattle.orbit.proofs.FirstLeast.{still-found}
-use Rattle.orbit.proofs.Stages.{stageAfter, fit-by-stages}
+use Rattle.orbit.proofs.ListOfShifts.{stageAfter, fit-by-stages}
 
 -- a stage's start: a little before a shift
 pub start-within : (a b : ℕ) (x y : Float) → a + b ≤ 12000 → Within a x → Within b y → Within 12000 (sub binary64 x y)

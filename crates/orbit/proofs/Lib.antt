@@ -8,7 +8,7 @@ mod Shifts
 mod Trials
 mod Updates
 pub mod FirstLeast
-pub mod Stages
+pub mod ListOfShifts
 pub mod Demand3
 pub mod MixedSeconds
 mod Finish

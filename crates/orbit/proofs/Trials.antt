@@ -13,11 +13,11 @@ use lib.Ieee.{Float, binary64, div, lt}
 use Rattle.float.specs.Root.{root}
 use Rattle.float.specs.Conversions.{nearestOf}
 use Rattle.samples.specs.Means.{Sample}
-use Rattle.orbit.specs.declared.fit.LeastSoFar.{LeastSoFar}
+use Rattle.orbit.specs.declared.stages.LeastSoFar.{LeastSoFar}
 use Rattle.orbit.specs.Fit.{trial}
 use Rattle.orbit.specs.Residuals.{Residual, residuals, total, meanOver, deviation}
 use Rattle.float.specs.Numbers.{minusZero}
-use Rattle.orbit.specs.State.{stateOf, update}
+use Rattle.orbit.specs.Stages.{stateOf, update}
 
 -- the mean of the first n values, from their sum
 pub mean-is : (ys : List Float) (n : ℕ) (s : Float) → length ys ≡ n → s ≡ total minusZero ys → div binary64 s (nearestOf (pos n)) ≡ meanOver ys

@@ -8,10 +8,10 @@ use lib.Dec.{T}
 use lib.Ieee.{Float, lt}
 use Rattle.float.specs.Signs.{Within}
 use Rattle.float.proofs.Comparison.{lt-trans}
-use Rattle.orbit.specs.declared.fit.LeastSoFar.{LeastSoFar}
+use Rattle.orbit.specs.declared.stages.LeastSoFar.{LeastSoFar}
 use Rattle.float.specs.Numbers.{largestFinite}
 use Rattle.orbit.specs.Fit.{Trial, Best, noneYet, found, later, search, shiftAt, shiftsFrom}
-use Rattle.orbit.specs.State.{stateOf, state, update, updates}
+use Rattle.orbit.specs.Stages.{stateOf, state, update, updates}
 
 module _ (try : Float → Trial) where
   pub stage-step : (n k : ℕ) (start increment : Float) (s : LeastSoFar) → k < n

@@ -6,4 +6,4 @@ pub mod Fitting
 pub mod Residuals
 pub mod Fit
 pub mod Passes
-pub mod State
+pub mod Stages

@@ -4,6 +4,7 @@ mod fit;
 mod passes;
 mod propagation;
 mod residuals;
+mod stages;
 mod window;
 
 pub use closest::ClosestApproach;

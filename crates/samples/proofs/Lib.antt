@@ -7,9 +7,9 @@ mod Starts
 pub mod Seconds
 pub mod OwnSeconds
 pub mod Recordings
-mod Sums
+mod SumsOfSeconds
 mod Places
-mod Runs
+mod RunsOfSeconds
 mod Areas
 mod Filling
 mod Picking

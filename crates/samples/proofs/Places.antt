@@ -12,7 +12,7 @@ use lib.Signed.{_<ℤ_, _≤ℤ_, clashℤ}
 use lib.ListN.{length, getD, length-map}
 use lib.Ieee.{Float, nan}
 use Rattle.samples.specs.Means.{Sample, wholeSecond, bin, seconds, recording, meanOf, means, instants, frequencies}
-use Rattle.samples.specs.Scans.{secondAt}
+use Rattle.samples.specs.Runs.{secondAt}
 use Rattle.samples.proofs.Parts.{lt-parts, parts-le, parts-lt, add-parts}
 use Rattle.samples.proofs.Seconds.{inserted, kept, only, under-at, Rising, rising, held}
 use Rattle.samples.proofs.Recordings.{noSample, record-length, record-at}

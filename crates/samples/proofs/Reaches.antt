@@ -14,7 +14,7 @@ use mir.Syntax.{w64}
 use mir.ValLaws.{toZ-ofZ}
 use Rattle.checks.specs.Limits.{farthestInstant}
 use Rattle.samples.specs.Means.{Sample, wholeSecond, eqZ, bin, recording, instants, Alike}
-use Rattle.samples.specs.Scans.{Reached}
+use Rattle.samples.specs.Runs.{Reached}
 use Rattle.samples.specs.Sorting.{SameBins}
 use Rattle.samples.proofs.Parts.{back, limit-fits}
 use Rattle.samples.proofs.Starts.{eq→eqZ}

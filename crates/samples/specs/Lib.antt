@@ -1,7 +1,7 @@
 -- The definitions of samples: means, slopes and slant range.
 pub mod Means
 pub mod Sums
-pub mod Scans
+pub mod Runs
 pub mod Approach
 pub mod Slant
 pub mod Sorting

@@ -1,8 +1,10 @@
 // What a recording says by itself: its means by the second, its measured approach, its steepest slope, and the slant range.
 mod approach;
 mod means;
+mod runs;
 mod slant;
 mod sorting;
+mod sums;
 
 pub use approach::Approach;
 pub use approach::Slope;

@@ -10,11 +10,11 @@ use Rattle.float.specs.Signs.{Within}
 use Rattle.float.proofs.Bounds.{sub-within}
 use Rattle.samples.specs.Means.{recording}
 use Rattle.checks.specs.Outcome.{refused, answered}
-use Rattle.orbit.specs.declared.fit.LeastSoFar.{LeastSoFar}
+use Rattle.orbit.specs.declared.stages.LeastSoFar.{LeastSoFar}
 use Rattle.float.specs.Numbers.{largestFinite}
 use Rattle.orbit.specs.Fit.{Trial, trial, twentieth, thousandth, shiftsFrom, fine, micro}
 use Rattle.orbit.specs.Residuals.{inputsOf, residualOf}
-use Rattle.orbit.specs.State.{updates, stageFrom, reportFrom}
+use Rattle.orbit.specs.Stages.{updates, stageFrom, reportFrom}
 use Rattle.orbit.proofs.Shifts.{weaken}
 use Rattle.orbit.proofs.Trials.{shift-is}
 use Rattle.orbit.proofs.Finish.{start-within, still-fitting, stage-kept, fine-from, micro-from}

@@ -10,11 +10,11 @@ use mir.ValLaws.{toZ-ofZ}
 use Rattle.float.specs.Signs.{Within}
 use Rattle.samples.specs.Means.{Sample, recording}
 use Rattle.samples.specs.Approach.{gapOf}
-use Rattle.orbit.specs.declared.fit.LeastSoFar.{LeastSoFar}
+use Rattle.orbit.specs.declared.stages.LeastSoFar.{LeastSoFar}
 use Rattle.orbit.specs.Closest.{closestInstant}
 use Rattle.orbit.specs.Fit.{Trial, trial, noneYet, coarse, fitBy}
 use Rattle.orbit.specs.Residuals.{Residual, inputsOf, residualOf}
-use Rattle.orbit.specs.State.{state, updates, finished}
+use Rattle.orbit.specs.Stages.{state, updates, finished}
 use Rattle.samples.proofs.Recordings.{record-length}
 use Rattle.orbit.proofs.Offsets.{back, near-is}
 use Rattle.orbit.proofs.Trials.{shift-is}
