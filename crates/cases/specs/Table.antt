@@ -24,6 +24,7 @@ pub record Case : Type 0 where
   pub given : Value
   pub paper : Value
 
+-- a line by its two values
 abbrev case : Value → Value → Case
 case g p = record { given = g; paper = p }
 
@@ -31,6 +32,7 @@ case g p = record { given = g; paper = p }
 abbrev plus : ℕ → ℤ → Float
 plus m e = fin false m e
 
+-- the same below zero
 abbrev minus : ℕ → ℤ → Float
 minus m e = fin true m e
 
@@ -38,6 +40,7 @@ minus m e = fin true m e
 abbrev half : Float
 half = plus 1 (negsuc 0)
 
+-- 1.0
 abbrev one : Float
 one = plus 1 (pos 0)
 
@@ -81,6 +84,7 @@ meansLines =
     ∷ case (whole (wholeSecond (pos 0))) (whole (pos 0))
     ∷ []
 
+-- all lines marked P
 abbrev pub table : List Case
 table = rootLines ++ chebyshevLines ++ startLines ++ meansLines
 

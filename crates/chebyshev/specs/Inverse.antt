@@ -12,9 +12,11 @@ use Rattle.float.specs.Signs.{magnitudeOf}
 use Rattle.chebyshev.specs.declared.inverse.Inverse.{Inverse}
 use Rattle.chebyshev.specs.Lists.{listOf}
 
+-- ten doubles
 abbrev pub Row : Type 0
 Row = List Float
 
+-- ten rows
 abbrev pub Matrix : Type 0
 Matrix = List Row
 
@@ -34,6 +36,7 @@ singularRefusal = 8
 abbrev pub cell : Matrix → ℕ → ℕ → Float
 cell m r c = getD (getD m r []) c nan
 
+-- a where the test holds, else b
 abbrev pub choose : {A : Type 0} → Bool → A → A → A
 choose true a b = a
 choose false a b = b
@@ -63,6 +66,7 @@ unfoldable pub seek : ℕ → ℕ → ℕ → Matrix → ℕ → ℕ
 seek zero c r m best = best
 seek (suc n) c r m best = seek n c (r + 1) m (choose (lt (magnitudeOf (cell m best c)) (magnitudeOf (cell m r c))) r best)
 
+-- the row that column i takes its pivot from
 abbrev pub pivotRow : ℕ → Matrix → ℕ
 pivotRow i t = seek (order - (i + 1)) i (i + 1) t i
 
@@ -80,6 +84,7 @@ cleared i ps r ks [] = []
 cleared i ps r [] (x ∷ xs) = x ∷ xs
 cleared i ps r (k ∷ ks) (x ∷ xs) = choose (eqb r i) x (reduced k x ps) ∷ cleared i ps (r + 1) ks xs
 
+-- the same by row i of the matrix itself
 abbrev pub clearedBy : ℕ → Row → Matrix → Matrix
 clearedBy i ks m = cleared i (getD m i []) 0 ks m
 
@@ -88,6 +93,7 @@ clearedBy i ks m = cleared i (getD m i []) 0 ks m
 abbrev pub scaledPivot : ℕ → Matrix → Matrix → Matrix
 scaledPivot i t m = let j = pivotRow i t in scaledAt i (cell (exchanged i j t) i i) (exchanged i j m)
 
+-- column i cleared out of m by the factors that t has
 abbrev pub clearedColumn : ℕ → Matrix → Matrix → Matrix
 clearedColumn i t m = clearedBy i (column i (scaledPivot i t t)) (scaledPivot i t m)
 
@@ -97,6 +103,7 @@ pub record Cleared (i : ℕ) (t v : Matrix) (taken : Bool) (t′ v′ : Matrix) 
   pub matrix : tooSmall i t ≡ false → t′ ≡ clearedColumn i t t
   pub inverse : tooSmall i t ≡ false → v′ ≡ clearedColumn i t v
 
+-- what an inversion gives
 pub data Outcome : Type 0 where
   singular : Outcome
   inverse : Matrix → Outcome
@@ -118,6 +125,7 @@ columnsFrom (suc n) i t v =
 abbrev pub unitCell : ℕ → ℕ → Float
 unitCell r c = choose (eqb c r) one nought
 
+-- the identity
 abbrev pub unitRows : Matrix
 unitRows = listOf (λ r. listOf (unitCell r) order 0) order 0
 
@@ -140,10 +148,12 @@ abbrev pub refusalOf : Outcome → ℕ
 refusalOf singular = singularRefusal
 refusalOf (inverse v) = 0
 
+-- the rows that stand beside the number
 abbrev pub rowsOf : Outcome → Matrix
 rowsOf singular = replicate order (replicate order nought)
 rowsOf (inverse v) = v
 
+-- the number, and the hundred doubles beside it
 abbrev pub answerOf : Outcome → Inverse
 answerOf singular = record { refusal = singularRefusal; numbers = replicate (order * order) nought }
 answerOf (inverse v) = record { refusal = 0; numbers = flat v }

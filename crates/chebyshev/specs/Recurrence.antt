@@ -34,10 +34,11 @@ T′ a τ (suc (suc j)) = a .less (a .plus (a .times (a .two) (T a τ (suc j))) 
 abbrev pub terms : ℕ
 terms = 10
 
--- T0 to T9 at τ, and their derivatives there
+-- T0 to T9 at τ
 abbrev pub polynomials : {A : Type 0} → Arithmetic A → A → List A
 polynomials a τ = listOf (T a τ) terms 0
 
+-- the derivatives of T0 to T9 at τ
 abbrev pub derivatives : {A : Type 0} → Arithmetic A → A → List A
 derivatives a τ = listOf (T′ a τ) terms 0
 
@@ -51,10 +52,11 @@ weightedFrom a s (c ∷ cs) (t ∷ ts) = weightedFrom a (a .plus s (a .times c t
 abbrev pub weighted : {A : Type 0} → Arithmetic A → List A → List A → A
 weighted a c t = weightedFrom a (a .nought) c t
 
--- the sum with the coefficients c at τ, and its slope
+-- the sum with the coefficients c at τ
 abbrev pub valueOf : {A : Type 0} → Arithmetic A → List A → A → A
 valueOf a c τ = weighted a c (polynomials a τ)
 
+-- the slope of the sum at τ, for each unit of τ
 abbrev pub slopeOf : {A : Type 0} → Arithmetic A → List A → A → A
 slopeOf a c τ = weighted a c (derivatives a τ)
 
@@ -74,6 +76,7 @@ pub record Dyadic : Type 0 where
   pub over : ℤ
   pub places : ℕ
 
+-- z over so many places more
 abbrev pub shifted : ℤ → ℕ → ℤ
 shifted z k = z *ℤ pos (2 ^ k)
 

@@ -46,6 +46,7 @@ unreachable c = not (le (magnitudeOf c) farthest)
 abbrev pub inside : Float → Bool
 inside c = lt (magnitudeOf c) closest
 
+-- 6. of one place: a component is unreachable, or all three are inside
 abbrev pub misplaced : Float → Float → Float → Bool
 misplaced x y z = (unreachable x || unreachable y || unreachable z) || (inside x && inside y && inside z)
 

@@ -11,14 +11,16 @@ pub record Check : Type 0 where
   pub number : ℕ
   pub fails : Bool
 
+-- the check with a number, that fails or not
 abbrev pub check : ℕ → Bool → Check
 check n b = record { number = n; fails = b }
 
--- the number of the first check that fails, 0 where none does
+-- the number n where its check fails, else what the rest gives
 abbrev pub pick : Bool → ℕ → ℕ → ℕ
 pick true n rest = n
 pick false n rest = rest
 
+-- the number of the first check that fails, 0 where none does
 unfoldable pub firstFailing : List Check → ℕ
 firstFailing [] = 0
 firstFailing (c ∷ cs) = pick (c .fails) (c .number) (firstFailing cs)

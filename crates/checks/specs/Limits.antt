@@ -8,6 +8,7 @@ use lib.Ieee.{Float, fin}
 abbrev pub leastCoordinates : ℕ
 leastCoordinates = 10
 
+-- the most that are taken
 abbrev pub mostCoordinates : ℕ
 mostCoordinates = 4096
 

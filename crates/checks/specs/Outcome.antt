@@ -3,6 +3,7 @@ use Prim.Native.Nat.{ℕ, zero, suc}
 use mathlib.Core.List.{List, _++_}
 use lib.ListN.{length, drop}
 
+-- a refusal, or an answer
 pub data Outcome (A : Type 0) : Type 0 where
   refused : ℕ → Outcome A
   answered : A → Outcome A

@@ -16,10 +16,11 @@ use Rattle.orbit.specs.declared.closest.ClosestApproach.the-variants.{At
 use Rattle.orbit.specs.Window.{evenTolerance}
 use Rattle.orbit.specs.Propagation.{Motion, propagated}
 
--- the squared distance from the observer, in square metres
+-- a number times itself
 abbrev pub squared : Float → Float
 squared r = mul binary64 r r
 
+-- the squared distance from the observer, in square metres: (rx·rx + ry·ry) + rz·rz, each operation rounded once
 abbrev pub squaredRange : Observer → Position → Float
 squaredRange o p =
     add binary64 (add binary64 (squared (sub binary64 (p .x) (o .x .0))) (squared (sub binary64 (p .y) (o .y .0)))) (squared (sub binary64 (p .z) (o .z .0)))
@@ -33,16 +34,19 @@ abbrev pub nearer : Observer → Outcome Motion → ℤ → Nearest → Nearest
 nearer o (refused n) offset best = best
 nearer o (answered m) offset best = let r = squaredRange o (m .position) in cond (lt r (best .range)) (record { range = r; offset = offset }) best
 
--- a minute, and −50 minutes, in seconds; as many steps as from −50 to 50 minutes, and from −60 to 60 s
+-- a minute, in seconds
 abbrev pub minute : ℕ
 minute = 60
 
+-- −50 minutes, in seconds
 abbrev pub firstMinute : ℤ
 firstMinute = negℤ (pos 3000)
 
+-- as many minutes as from −50 to 50
 abbrev pub minuteSteps : ℕ
 minuteSteps = 101
 
+-- as many seconds as from −60 to 60
 abbrev pub secondSteps : ℕ
 secondSteps = 121
 
@@ -62,11 +66,13 @@ module _ (tolerance : Float) (instants : List ℤ) (positions : List Float) (o :
   abbrev pub bySeconds : Nearest
   bySeconds = let centre = byMinutes .offset in seekNearest secondSteps 0 (centre +ℤ negℤ (pos minute)) 1 (record { range = largestFinite; offset = centre })
 
+  -- the instant of the nearest, in nanoseconds
   abbrev pub closestInstant : ℤ
   closestInstant = movedBySeconds around (bySeconds .offset)
 
 -- ---- the entry: checks 1, 4, 5, 6, never 8
 
+-- the refusal, or that instant
 abbrev pub closestApproach : List ℤ → List Float → Observer → ℤ → Outcome ℤ
 closestApproach instants positions o t =
     outcome (firstFailing (closestChecks instants positions (o .x .0) (o .y .0) (o .z .0) t)) (closestInstant evenTolerance instants positions o t)

@@ -41,10 +41,12 @@ usable t = t .enough && lt (t .rmse) largestFinite
 
 -- ---- the first least
 
+-- the best trial so far, if there is one
 pub data Best : Type 0 where
   noneYet : Best
   found : Trial → Best
 
+-- its RMSE, in hertz; with none the largest finite double, which no usable trial reaches
 abbrev pub rmseOf : Best → Float
 rmseOf noneYet = largestFinite
 rmseOf (found t) = t .rmse
@@ -53,6 +55,7 @@ rmseOf (found t) = t .rmse
 abbrev pub later : Best → Trial → Best
 later b t = cond (t .enough && lt (t .rmse) (rmseOf b)) (found t) b
 
+-- trial after trial
 unfoldable pub search : Best → List Trial → Best
 search b [] = b
 search b (t ∷ ts) = search (later b t) ts
@@ -63,22 +66,27 @@ firstLeast try L = search noneYet (map try L)
 
 -- ---- the list of the shifts
 
--- 5.0, 15.0, 0.1, 0.05, 0.001, 0.00001
+-- 5.0
 abbrev pub five : Float
 five = fin false 5 (pos 0)
 
+-- 15.0
 abbrev pub fifteen : Float
 fifteen = fin false 15 (pos 0)
 
+-- 0.1
 abbrev pub tenth : Float
 tenth = fin false 3602879701896397 (negsuc 54)
 
+-- 0.05
 abbrev pub twentieth : Float
 twentieth = fin false 3602879701896397 (negsuc 55)
 
+-- 0.001
 abbrev pub thousandth : Float
 thousandth = fin false 1152921504606847 (negsuc 59)
 
+-- 0.00001
 abbrev pub hundredThousandth : Float
 hundredThousandth = fin false 5902958103587057 (negsuc 68)
 
@@ -118,6 +126,7 @@ further f noneYet = []
 further f (found t) = f (t .shift)
 
 module _ (try : Float → Trial) (centre : Float) where
+  -- the coarse shifts and the fine ones
   unfoldable pub coarseFine : List Float
   coarseFine = coarse centre ++ further fine (firstLeast try (coarse centre))
 
@@ -132,6 +141,7 @@ module _ (try : Float → Trial) (centre : Float) where
 abbrev pub reported : ℕ → Float → Float → Float → Report
 reported n shift offset rmse = record { clock = record { 0 = shift }; frequency = record { 0 = offset }; rmse = record { 0 = rmse }; count = n }
 
+-- the report of a trial
 abbrev pub report : ℕ → Trial → Report
 report n t = reported n (t .shift) (t .offset) (t .rmse)
 
@@ -155,6 +165,7 @@ fitted i S measured = fitBy (trial (residualOf i) S) (length S) (centreOf i meas
 
 -- ---- the entry: checks 1, 2, 4, 5, 6, 7, then 10
 
+-- the refusal, or the fit
 abbrev pub satelliteFit : Inputs → List ℤ → List Float → ℤ → Outcome Report
 satelliteFit i ts fs measured =
     unlessRefused (firstFailing (fitChecks (i .instants) (i .positions) ts fs (i .observer .x .0) (i .observer .y .0) (i .observer .z .0) (i .f0) measured))

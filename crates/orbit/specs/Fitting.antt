@@ -6,26 +6,31 @@ use lib.ListN.{length}
 use lib.Ieee.{Float}
 use Rattle.checks.specs.Passed.{Table, Samples}
 
--- How far the search goes, each a bound that fits its machine number: an offset by whole seconds; the centre of the shifts, the best coarse
--- shift, the start of a stage and any shift, in seconds; a shift in microseconds.
+-- how far the search goes, each a bound that fits its machine number: an offset, in whole seconds
 abbrev pub farthestOffset : ℕ
 farthestOffset = 10000
 
+-- the centre of the shifts, in seconds
 abbrev pub farthestCentre : ℕ
 farthestCentre = 10001
 
+-- the best coarse shift, in seconds
 abbrev pub farthestBest : ℕ
 farthestBest = 10400
 
+-- the start of a stage, in seconds
 abbrev pub farthestStart : ℕ
 farthestStart = 12000
 
+-- any shift, in seconds
 abbrev pub farthestShift : ℕ
 farthestShift = 20000
 
+-- any shift, in microseconds
 abbrev pub farthestMicros : ℕ
 farthestMicros = 20000000000
 
+-- the five areas of a fit
 pub record Fitting (instants : List ℤ) (positions : List Float) (samples : List ℤ) (frequencies values : List Float) : Type 0 where
   pub table : Table instants positions
   pub sampled : Samples samples frequencies

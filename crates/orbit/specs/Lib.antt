@@ -1,4 +1,4 @@
--- The definitions of orbit: window, model, propagation and closest approach.
+-- The definitions of orbit: window and model, propagation, closest approach, residuals, fit and its stages, pass.
 pub mod Window
 pub mod Propagation
 pub mod Closest

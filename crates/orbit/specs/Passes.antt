@@ -17,12 +17,15 @@ abbrev pub approachOr : ℤ → Outcome ℤ → ℤ
 approachOr fallback (refused n) = fallback
 approachOr fallback (answered t) = t
 
+-- the instant at index count/2
 abbrev pub middleOf : List ℤ → ℤ
 middleOf ts = getD ts (length ts / 2) (pos 0)
 
+-- the measured approach of samples in two slices, or else their middle
 abbrev pub measuredBy : List ℤ → List Float → ℤ
 measuredBy ts fs = approachOr (middleOf ts) (approachOf ts fs)
 
+-- the same of a list of samples
 abbrev pub measuredOf : List Sample → ℤ
 measuredOf M = measuredBy (instants M) (frequencies M)
 
@@ -32,10 +35,12 @@ passOutcome i S = let M = means S in fitted i M (measuredOf M)
 
 -- ---- the entry: checks 1 to 7, then 10
 
+-- the number of the first check that fails, 0 where none does
 abbrev pub passRefusal : Inputs → List ℤ → List Float → List ℤ → List Float → ℕ
 passRefusal i ts fs instantArea frequencyArea =
     firstFailing (passChecks (i .instants) (i .positions) ts fs (i .observer .x .0) (i .observer .y .0) (i .observer .z .0) (i .f0) instantArea frequencyArea)
 
+-- a refusal by a check, or the outcome on the means
 abbrev pub passReport : Inputs → List ℤ → List Float → List ℤ → List Float → Outcome Report
 passReport i ts fs instantArea frequencyArea = unlessRefused (passRefusal i ts fs instantArea frequencyArea) (passOutcome i (recording ts fs))
 
@@ -43,5 +48,6 @@ passReport i ts fs instantArea frequencyArea = unlessRefused (passRefusal i ts f
 abbrev pub passInstants : Inputs → List ℤ → List Float → List ℤ → List Float → List ℤ
 passInstants i ts fs instantArea frequencyArea = area (passRefusal i ts fs instantArea frequencyArea) (instants (means (recording ts fs))) instantArea
 
+-- the same of the area for frequencies
 abbrev pub passFrequencies : Inputs → List ℤ → List Float → List ℤ → List Float → List Float
 passFrequencies i ts fs instantArea frequencyArea = area (passRefusal i ts fs instantArea frequencyArea) (frequencies (means (recording ts fs))) frequencyArea

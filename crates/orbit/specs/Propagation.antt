@@ -18,10 +18,11 @@ pub record Motion : Type 0 where
   pub position : Position
   pub velocity : Velocity
 
--- τ of an instant in a model's window, and how fast τ runs
+-- τ of an instant in a model's window
 abbrev pub tauAt : ChebyshevOrbit → ℤ → Float
 tauAt m t = tauOf (m .t0 .0) (m .t9 .0) (secondsOf t)
 
+-- how fast τ runs, for each second
 abbrev pub tauRate : ChebyshevOrbit → Float
 tauRate m = div binary64 two (sub binary64 (m .t9 .0) (m .t0 .0))
 
@@ -29,6 +30,7 @@ tauRate m = div binary64 two (sub binary64 (m .t9 .0) (m .t0 .0))
 abbrev pub positionAt : ChebyshevOrbit → ℤ → Position
 positionAt m t = let τ = tauAt m t in record { x = valueOf rounded (m .cx) τ; y = valueOf rounded (m .cy) τ; z = valueOf rounded (m .cz) τ }
 
+-- the velocity: the slope for each unit of τ times the rate of τ
 abbrev pub velocityAt : ChebyshevOrbit → ℤ → Velocity
 velocityAt m t =
     let τ = tauAt m t in
@@ -38,9 +40,11 @@ velocityAt m t =
       z = mul binary64 (slopeOf rounded (m .cz) τ) (tauRate m);
     }
 
+-- position and velocity
 abbrev pub motionAt : ChebyshevOrbit → ℤ → Motion
 motionAt m t = record { position = positionAt m t; velocity = velocityAt m t }
 
+-- position and velocity by a model, or its refusal
 abbrev pub evaluated : Outcome ChebyshevOrbit → ℤ → Outcome Motion
 evaluated (refused n) t = refused n
 evaluated (answered m) t = answered (motionAt m t)

@@ -22,6 +22,7 @@ pub record Inputs : Type 0 where
   pub observer : Observer
   pub f0 : Float
 
+-- the inputs by their parts
 abbrev pub inputsOf : Float → List ℤ → List Float → Observer → Float → Inputs
 inputsOf tolerance instants positions observer f0 = record { tolerance = tolerance; instants = instants; positions = positions; observer = observer; f0 = f0 }
 
@@ -57,15 +58,18 @@ pub data Residual : Type 0 where
   nothing : Residual
   left : Float → Residual
 
+-- the residual of a frequency, by what its propagation gives
 abbrev pub residualIn : Observer → Float → Float → Outcome Motion → Residual
 residualIn o f0 frequency (refused n) = nothing
 residualIn o f0 frequency (answered m) = left (residualAt o f0 frequency m)
 
+-- the residual of a sample under a shift
 abbrev pub residualOf : Inputs → Float → Sample → Residual
 residualOf i shift x = residualIn (i .observer) (i .f0) (x .frequency) (propagated (i .tolerance) (i .instants) (i .positions) (moved (x .instant) shift))
 
 -- ---- what is left of the samples
 
+-- one residual more in front, where it is left
 abbrev pub keep : Residual → List Float → List Float
 keep nothing ys = ys
 keep (left y) ys = y ∷ ys

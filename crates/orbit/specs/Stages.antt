@@ -1,4 +1,4 @@
--- The fit's state as the Rust keeps it: three doubles, the least RMSE so far, its shift and its frequency offset.
+-- The stages as the code runs them, with the fit's state as the Rust keeps it: three doubles, the least RMSE so far, its shift and its frequency offset.
 use mathlib.Core.Bool.{cond, _&&_}
 use mathlib.Core.List.{List, [], _∷_, map}
 use Prim.Native.Nat.{ℕ}
@@ -9,6 +9,7 @@ use Rattle.checks.specs.Outcome.{Outcome, refused, answered}
 use Rattle.orbit.specs.declared.fit.Report.{Report}
 use Rattle.orbit.specs.Fit.{Trial, Best, noneYet, found, fine, micro, reported}
 
+-- the state that a trial leaves when it wins
 abbrev pub stateOf : Trial → LeastSoFar
 stateOf t = record { rmse = t .rmse; shift = t .shift; offset = t .offset }
 
@@ -21,6 +22,7 @@ state (found t) = stateOf t
 abbrev pub update : LeastSoFar → Trial → LeastSoFar
 update s t = cond (t .enough && lt (t .rmse) (s .rmse)) (stateOf t) s
 
+-- trial after trial
 unfoldable pub updates : LeastSoFar → List Trial → LeastSoFar
 updates s [] = s
 updates s (t ∷ ts) = updates (update s t) ts
@@ -29,6 +31,7 @@ updates s (t ∷ ts) = updates (update s t) ts
 abbrev pub stageFrom : (Float → Trial) → (Float → List Float) → LeastSoFar → LeastSoFar
 stageFrom try stage s = updates s (map try (stage (s .shift)))
 
+-- the report by the state
 abbrev pub reportFrom : ℕ → LeastSoFar → Report
 reportFrom n s = reported n (s .shift) (s .offset) (s .rmse)
 

@@ -28,6 +28,7 @@ unfoldable pub lastFrom : ℕ → ℕ → List ℤ → ℤ → ℕ
 lastFrom k found [] t = found
 lastFrom k found (x ∷ xs) t = lastFrom (k + 1) (cond (leZ x t) k found) xs t
 
+-- the index of the last coordinate at or before the instant, or 0
 abbrev pub lastBefore : List ℤ → ℤ → ℕ
 lastBefore instants t = lastFrom 0 0 instants t
 
@@ -35,6 +36,7 @@ lastBefore instants t = lastFrom 0 0 instants t
 abbrev pub startOf : ℕ → ℕ → ℕ
 startOf idx n = cond (ltb idx 4) 0 (cond (leb n (idx + 5)) (n - terms) (idx - 4))
 
+-- the start of the window about an instant
 abbrev pub windowStart : List ℤ → ℤ → ℕ
 windowStart instants t = startOf (lastBefore instants t) (length instants)
 
@@ -54,10 +56,11 @@ secondsOf n = mul binary64 (nearestOf n) nanosecond
 abbrev pub windowSeconds : List ℤ → ℕ → List Float
 windowSeconds instants start = listOf (λ k. secondsOf (getD instants (start + k) (pos 0))) terms 0
 
--- the first and the last of ten times
+-- the first of ten times
 abbrev pub firstTime : List Float → Float
 firstTime t = getD t 0 nan
 
+-- the last of ten times
 abbrev pub lastTime : List Float → Float
 lastTime t = getD t 9 nan
 
@@ -70,6 +73,7 @@ unfoldable pub wideFrom : ℕ → ℕ → Float → List Float → Bool
 wideFrom zero k tolerance t = false
 wideFrom (suc n) k tolerance t = wideGap tolerance t k || wideFrom n (k + 1) tolerance t
 
+-- one of the nine gaps is wide
 abbrev pub uneven : Float → List Float → Bool
 uneven tolerance t = wideFrom 9 0 tolerance t
 
@@ -118,6 +122,7 @@ modelAbout tolerance instants positions t = modelAt tolerance instants positions
 
 -- ---- the entry: checks 1, 4, 5, 6, then 8
 
+-- the refusal, or the model
 abbrev pub chebyshevModel : List ℤ → List Float → ℤ → Outcome ChebyshevOrbit
 chebyshevModel instants positions t = unlessRefused (firstFailing (propagationChecks instants positions t)) (modelAbout evenTolerance instants positions t)
 
@@ -131,6 +136,7 @@ blankModel = record {
   cz = replicate terms nought;
 }
 
+-- the number beside the model
 abbrev pub modelAnswer : Outcome ChebyshevOrbit → Model
 modelAnswer (refused n) = record { refusal = n; orbit = blankModel }
 modelAnswer (answered m) = record { refusal = 0; orbit = m }

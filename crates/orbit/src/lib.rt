@@ -1,4 +1,4 @@
-// The tabulated orbit: the Chebyshev model about an instant, position and velocity, and the closest approach.
+// The tabulated orbit: the Chebyshev model about an instant, position and velocity, the closest approach, the fit of a recording and the whole pass.
 mod closest;
 mod fit;
 mod passes;

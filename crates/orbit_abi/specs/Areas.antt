@@ -11,6 +11,7 @@ use Rattle.chebyshev.specs.Inverse.{Row, Matrix, order, Outcome, singular, inve
 abbrev pub rowAt : Row → ℕ → Row
 rowAt xs r = listOf (λ c. getD xs (order * r + c) nan) order 0
 
+-- the ten rows
 abbrev pub rowsIn : Row → Matrix
 rowsIn xs = listOf (rowAt xs) order 0
 

@@ -12,23 +12,28 @@ use Rattle.orbit.specs.declared.fit.Report.{Report}
 use Rattle.orbit.specs.declared.window.ChebyshevOrbit.{ChebyshevOrbit}
 use Rattle.orbit.specs.Propagation.{Motion}
 
+-- number k of the 32
 abbrev pub modelNumber : ChebyshevOrbit → ℕ → Float
 modelNumber m k =
     cond (ltb k 1) (m .t0 .0) (cond (ltb k 2) (m .t9 .0) (cond (ltb k 12) (getD (m .cx) (k - 2) nan) (cond (ltb k 22) (getD (m .cy) (k - 12) nan) (getD (m .cz) (k - 22) nan))))
 
+-- all of them
 abbrev pub modelNumbers : ChebyshevOrbit → List Float
 modelNumbers m = listOf (modelNumber m) 32 0
 
--- ten numbers from one on, and the model that 32 numbers stand for
+-- ten numbers from one on
 abbrev pub rowFrom : List Float → ℕ → List Float
 rowFrom xs from = listOf (λ k. getD xs (from + k) nan) 10 0
 
+-- the model that 32 numbers stand for
 abbrev pub modelIn : List Float → ChebyshevOrbit
 modelIn xs = record { t0 = record { 0 = getD xs 0 nan }; t9 = record { 0 = getD xs 1 nan }; cx = rowFrom xs 2; cy = rowFrom xs 12; cz = rowFrom xs 22 }
 
+-- position and velocity, x, y, z each
 abbrev pub motionNumbers : Motion → List Float
 motionNumbers m = m .position .x ∷ m .position .y ∷ m .position .z ∷ m .velocity .x ∷ m .velocity .y ∷ m .velocity .z ∷ []
 
+-- clock offset in seconds, frequency offset and RMSE in hertz
 abbrev pub reportNumbers : Report → List Float
 reportNumbers r = r .clock .0 ∷ r .frequency .0 ∷ r .rmse .0 ∷ []
 

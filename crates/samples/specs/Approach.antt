@@ -41,10 +41,11 @@ millisecond = 1000000
 abbrev pub gapOf : ℤ → ℤ → Float
 gapOf previous next = div binary64 (nearestOf (quotZ (next -ℤ previous) (pos millisecond))) thousand
 
--- "(f next − f previous)/(t next − t previous)" about sample i, in hertz for each second
+-- the seconds from the sample before sample i to the one after it
 abbrev pub gapAt : List ℤ → ℕ → Float
 gapAt ts i = gapOf (getD ts (i - 1) (pos 0)) (getD ts (i + 1) (pos 0))
 
+-- "(f next − f previous)/(t next − t previous)" about sample i, in hertz for each second
 abbrev pub slopeAt : List ℤ → List Float → ℕ → Float
 slopeAt ts fs i = div binary64 (sub binary64 (getD fs (i + 1) nan) (getD fs (i - 1) nan)) (gapAt ts i)
 
@@ -72,6 +73,7 @@ approachOf ts fs = let best = leastSlope noFloor ts fs in cond (lt (best .slope)
 
 -- ---- the entries: checks 2 and 4 first
 
+-- the refusal, or the measured approach
 abbrev pub measuredApproach : List ℤ → List Float → Outcome ℤ
 measuredApproach ts fs = unlessRefused (firstFailing (samplesChecks ts fs)) (approachOf ts fs)
 
@@ -84,6 +86,7 @@ abbrev pub approachIn : Approach → Outcome ℤ
 approachIn (At t) = answered (t .0)
 approachIn (NoApproach n) = refused n
 
+-- the same of the steepest slope
 abbrev pub slopeIn : Slope → Outcome Float
 slopeIn (Steepest s) = answered s
 slopeIn (NoSlope n) = refused n

@@ -26,10 +26,11 @@ recording [] fs = []
 recording (t ∷ ts) [] = []
 recording (t ∷ ts) (f ∷ fs) = record { instant = t; frequency = f } ∷ recording ts fs
 
--- nanoseconds in a second, and in a microsecond
+-- nanoseconds in a second
 abbrev pub second : ℕ
 second = 1000000000
 
+-- nanoseconds in a microsecond
 abbrev pub microsecond : ℕ
 microsecond = 1000
 
@@ -37,6 +38,7 @@ microsecond = 1000
 abbrev pub wholeSecond : ℤ → ℤ
 wholeSecond t = shrZ t second
 
+-- whether two whole numbers are the same
 abbrev pub eqZ : ℤ → ℤ → Bool
 eqZ (pos a) (pos b) = eqb a b
 eqZ (pos a) (negsuc b) = false
@@ -91,9 +93,11 @@ unfoldable pub means : List Sample → List Sample
 unfolding bin seconds meanOf
 means S = map (λ s. meanOf (bin s S)) (seconds S)
 
+-- the instants of some samples
 abbrev pub instants : List Sample → List ℤ
 instants S = map (λ (x : Sample). x .instant) S
 
+-- the frequencies of some samples
 abbrev pub frequencies : List Sample → List Float
 frequencies S = map (λ (x : Sample). x .frequency) S
 
@@ -103,15 +107,19 @@ Alike S S′ = (s : ℤ) → bin s S ≡ bin s S′
 
 -- ---- the entry: checks 2, 3, 4, then the count of means and what the two areas hold
 
+-- the number of the first check that fails, 0 where none does
 abbrev pub meansRefusal : List ℤ → List Float → List ℤ → List Float → ℕ
 meansRefusal ts fs instantArea frequencyArea = firstFailing (meansChecks ts fs instantArea frequencyArea)
 
+-- a refusal, or how many means there are
 abbrev pub meansCount : List ℤ → List Float → List ℤ → List Float → Outcome ℕ
 meansCount ts fs instantArea frequencyArea = outcome (meansRefusal ts fs instantArea frequencyArea) (length (means (recording ts fs)))
 
+-- what the area for instants holds afterwards
 abbrev pub meansInstants : List ℤ → List Float → List ℤ → List Float → List ℤ
 meansInstants ts fs instantArea frequencyArea = area (meansRefusal ts fs instantArea frequencyArea) (instants (means (recording ts fs))) instantArea
 
+-- what the area for frequencies holds afterwards
 abbrev pub meansFrequencies : List ℤ → List Float → List ℤ → List Float → List Float
 meansFrequencies ts fs instantArea frequencyArea = area (meansRefusal ts fs instantArea frequencyArea) (frequencies (means (recording ts fs))) frequencyArea
 

@@ -1,4 +1,4 @@
--- What the scans below the entry say of the samples' instants, by their places.
+-- Runs of samples of one second, and seconds that never fall, by the places of the samples.
 use Prim.Native.Nat.{ℕ, _+_, _≤_, _<_}
 use mathlib.Core.Path.{_≡_}
 use mathlib.Core.List.{List}

@@ -4,16 +4,19 @@ use lib.IntN.{pos, negsuc}
 use lib.Ieee.{Float, fin, binary64, mul, div, lt}
 use Rattle.float.specs.Signs.{magnitudeOf}
 
--- 7585 m/s, the speed of the satellite; 299792458 m/s, the speed of light; 0.1 Hz/s; 2,000,000 m
+-- 7585 m/s, the speed of the satellite
 abbrev pub satelliteSpeed : Float
 satelliteSpeed = fin false 7585 (pos 0)
 
+-- 299792458 m/s, the speed of light
 abbrev pub lightSpeed : Float
 lightSpeed = fin false 149896229 (pos 1)
 
+-- 0.1 Hz/s
 abbrev pub leastSteepness : Float
 leastSteepness = fin false 3602879701896397 (negsuc 54)
 
+-- 2,000,000 m
 abbrev pub fallbackRange : Float
 fallbackRange = fin false 15625 (pos 7)
 

@@ -30,6 +30,7 @@ abbrev pub moreOf : Bool → Bin → ℤ → Float → Bin
 moreOf true b t f = record { count = 1; base = t; micros = pos 0; hertz = add binary64 (b .hertz) f }
 moreOf false b t f = record { count = b .count + 1; base = b .base; micros = b .micros +ℤ quotZ (t -ℤ b .base) (pos microsecond); hertz = add binary64 (b .hertz) f }
 
+-- one sample more; the first gives the base
 abbrev pub added : Bin → ℤ → Float → Bin
 added b t f = moreOf (eqb (b .count) 0) b t f
 
@@ -73,9 +74,10 @@ pub record Recorded (ts : List ℤ) (fs : List Float) : Type 0 where
   pub few : length ts ≤ mostSamples
   pub limited : (k : ℕ) → natAbs (getD ts k (pos 0)) ≤ farthestInstant
 
--- the means of two slices, as they are written
+-- the instants of the means of two slices, as they are written
 abbrev pub instantsOfMeans : List ℤ → List Float → List ℤ
 instantsOfMeans ts fs = instants (means (recording ts fs))
 
+-- their frequencies
 abbrev pub frequenciesOfMeans : List ℤ → List Float → List Float
 frequenciesOfMeans ts fs = frequencies (means (recording ts fs))
