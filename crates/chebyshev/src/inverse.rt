@@ -115,6 +115,7 @@ fn clear_column(t: &mut [[f64; 10]; 10], v: &mut [[f64; 10]; 10], i: usize) -> b
     true
 }
 
+// The rows of the identity.
 const IDENTITY: [[f64; 10]; 10] = [
     [1.0, 0.0, 0.0, 0.0, 0.0, 0.0, 0.0, 0.0, 0.0, 0.0],
     [0.0, 1.0, 0.0, 0.0, 0.0, 0.0, 0.0, 0.0, 0.0, 0.0],
