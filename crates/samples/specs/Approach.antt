@@ -17,7 +17,7 @@ use Rattle.samples.specs.declared.approach.Slope.{Slope}
 use Rattle.samples.specs.declared.approach.Slope.the-variants.{Steepest}
 use Rattle.samples.specs.declared.approach.Slope.the-variants.{Refused as NoSlope}
 
--- 1000.0 and −120.0
+-- 1000.0
 abbrev pub thousand : Float
 thousand = fin false 125 (pos 3)
 
