@@ -8,7 +8,7 @@ use lib.IntN.{ℤ, pos, negsuc}
 use lib.ListN.{replicate}
 use lib.Ieee.{Float, fin, binary64, round, ofInt, add, sub, mul, div}
 use Rattle.float.specs.Root.{root, rootOf, wholeRoot, rootIn}
-use Rattle.chebyshev.specs.Lists.{listOf}
+use Rattle.common.specs.Lists.{listOf}
 use Rattle.chebyshev.specs.Recurrence.{rounded, valueOf, slopeOf, weightedFrom, T, T′}
 use Rattle.samples.specs.Means.{Sample, recording, wholeSecond, bin, insert, seconds, offsets, frequencySum, meanInstant, meanFrequency, meanOf, means}
 use Rattle.orbit.specs.Window.{startOf}
@@ -28,7 +28,7 @@ pub record Case : Type 0 where
 abbrev case : Value → Value → Case
 case g p = record { given = g; paper = p }
 
--- m * 2 ^ e, and its negative
+-- m * 2 ^ e
 abbrev plus : ℕ → ℤ → Float
 plus m e = fin false m e
 
@@ -36,7 +36,7 @@ plus m e = fin false m e
 abbrev minus : ℕ → ℤ → Float
 minus m e = fin true m e
 
--- 0.5, 1 and 2.25
+-- 0.5
 abbrev half : Float
 half = plus 1 (negsuc 0)
 

@@ -1,7 +1,7 @@
 -- What the proofs of chebyshev share, and the laws that the crates above cite (`pub`).
-pub mod Filled
 pub mod Sums
 pub mod IdealInverse
 mod Scaled
 mod Rows
-mod Columns
+pub mod Columns
+pub mod Pivots

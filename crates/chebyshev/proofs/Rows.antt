@@ -1,8 +1,7 @@
--- The loops over rows: what is written so far, and what the definition makes of the rest, is what it makes of the whole; and the search for a
--- pivot, a row for each step. Assumes nothing.
-use mathlib.Core.Path.{_≡_, refl, ap, ap₂, _∙_, sym, subst}
+-- The loops over rows: what is written so far, and what the definition makes of the rest, is what it makes of the whole. Assumes nothing.
+use mathlib.Core.Path.{_≡_, refl, ap, _∙_, sym, subst}
+use mathlib.Core.Bool.{cond}
 use mathlib.Core.Logic.{_⊎_, inl, inr}
-use mathlib.Core.Bool.{Bool}
 use mathlib.Core.List.{List, [], _∷_, _++_, append-nil}
 use Prim.Native.Nat.{ℕ, suc, _+_, _-_, _*_, _/_, _%_, _≤_, _<_}
 use native.Mathlib.Nat.{le-refl, le-of-suc-le-suc, lt-of-not-le, eq-or-lt-of-le}
@@ -10,12 +9,11 @@ use native.Mathlib.Decide.{decLt}
 use native.Mathlib.Numerals.{add-one}
 use lib.ListN.{length, getD, take, drop, set, drop-of-length-le, take-append-drop}
 use lib.Seq.{take-suc-set, drop-set-lt, drop-cons, append-snoc, take-all, set-getD, set-out, getD-set-same, getD-set-other}
-use lib.Ieee.{Float, nan, binary64, div, sub, mul, lt}
+use lib.Ieee.{Float, nan, binary64, div, sub, mul}
 use lib.Dec.{eqb}
 use borrow.Author.Tests.{eq-eqb, ne-eqb}
 use native.Mathlib.Omega.{arith}
-use Rattle.float.specs.Signs.{magnitudeOf}
-use Rattle.chebyshev.specs.Inverse.{Row, Matrix, cell, choose, divided, reduced, cleared, exchanged, seek, RowPut}
+use Rattle.chebyshev.specs.Inverse.{Row, Matrix, cell, divided, reduced, cleared, exchanged, RowPut}
 
 pub divided-step : (p : Float) (l : Row) (c : ℕ) → c < length l
     → (let v = div binary64 (getD l c nan) p in take (c + 1) (set l c v) ++ divided p (drop (c + 1) (set l c v)) ≡ take c l ++ divided p (drop c l))
@@ -48,13 +46,13 @@ written l c v rest h = rw (add-one, take-suc-set l c v h) (append-snoc (take c l
 
 -- one row more; past the last row nothing changes on either side
 pub cleared-step : (i : ℕ) (by ks : Row) (l : Matrix) (r : ℕ) → r < length ks
-    → (let v = choose (eqb r i) (getD l r []) (reduced (getD ks r nan) (getD l r []) by) in
+    → (let v = cond (eqb r i) (getD l r []) (reduced (getD ks r nan) (getD l r []) by) in
     take (r + 1) (set l r v) ++ cleared i by (r + 1) (drop (r + 1) ks) (drop (r + 1) (set l r v)) ≡ take r l ++ cleared i by r (drop r ks) (drop r l))
 unfolding cleared
 cleared-step i by ks l r g = go (decLt r (length l))
   where
     v : Row
-    v = choose (eqb r i) (getD l r []) (reduced (getD ks r nan) (getD l r []) by)
+    v = cond (eqb r i) (getD l r []) (reduced (getD ks r nan) (getD l r []) by)
 
     go : Dec (r < length l) → take (r + 1) (set l r v) ++ cleared i by (r + 1) (drop (r + 1) ks) (drop (r + 1) (set l r v)) ≡ take r l ++ cleared i by r (drop r ks) (drop r l)
     go (yes h) =
@@ -74,30 +72,13 @@ no-factors i by r (x ∷ xs) = refl
 pub cleared-end : (i : ℕ) (by ks : Row) (l : Matrix) (r : ℕ) → length ks ≤ r → take r l ++ cleared i by r (drop r ks) (drop r l) ≡ l
 cleared-end i by ks l r h = rw (drop-of-length-le ks h, no-factors i by r (drop r l)) (take-append-drop r l)
 
-pub seek-step : (i : ℕ) (m : Matrix) (r best : ℕ) → r < 10
-    → seek (10 - (r + 1)) i (r + 1) m (choose (lt (magnitudeOf (cell m best i)) (magnitudeOf (cell m r i))) r best) ≡ seek (10 - r) i r m best
-unfolding seek
-seek-step i m r best h =
-    let e : 10 - r ≡ suc (10 - (r + 1)) = omega arith in
-    rw e
-
-pub seek-end : (i : ℕ) (m : Matrix) (r best : ℕ) → 10 ≤ r → seek (10 - r) i r m best ≡ best
-unfolding seek
-seek-end i m r best h =
-    let e : 10 - r ≡ 0 = omega arith in
-    rw e
-
-pub seek-by : (i : ℕ) (m : Matrix) (r best : ℕ) (most x : Float) (b : Bool) → r < 10 → most ≡ magnitudeOf (cell m best i) → x ≡ magnitudeOf (cell m r i) → lt most x ≡ b
-    → seek (10 - (r + 1)) i (r + 1) m (choose b r best) ≡ seek (10 - r) i r m best
-seek-by i m r best most x b h p q t = ap (λ (y : Bool). seek (10 - (r + 1)) i (r + 1) m (choose y r best)) (sym t ∙ ap₂ lt p q) ∙ seek-step i m r best h
-
 -- what a turn leaves of the row r: less its factor times the row i, or as it was where it is row i
 pub cleared-other : (i : ℕ) (by ks : Row) (l l′ : Matrix) (r : ℕ) (x : Row) → (r ≡ i → ⊥) → x ≡ reduced (getD ks r nan) (getD l r []) by → l′ ≡ set l r x
-    → l′ ≡ set l r (choose (eqb r i) (getD l r []) (reduced (getD ks r nan) (getD l r []) by))
+    → l′ ≡ set l r (cond (eqb r i) (getD l r []) (reduced (getD ks r nan) (getD l r []) by))
 cleared-other i by ks l l′ r x n e f = rw (ne-eqb r i n) (f ∙ ap (λ (y : Row). set l r y) e)
 
 pub cleared-same : (i : ℕ) (by ks : Row) (l l′ : Matrix) (r : ℕ) → r ≡ i → l′ ≡ l
-    → l′ ≡ set l r (choose (eqb r i) (getD l r []) (reduced (getD ks r nan) (getD l r []) by))
+    → l′ ≡ set l r (cond (eqb r i) (getD l r []) (reduced (getD ks r nan) (getD l r []) by))
 cleared-same i by ks l l′ r e f = rw (eq-eqb r i e) (f ∙ sym (set-getD l r []))
 
 -- rows that are the same, exchanged

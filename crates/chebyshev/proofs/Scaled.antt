@@ -6,13 +6,13 @@ use Prim.Native.Nat.{ℕ, _+_, _≤_, _<_}
 use native.Mathlib.Omega.{arith}
 use lib.ListN.{length, getD, drop, replicate}
 use lib.Ieee.{Float, nan, binary64, add, mul}
-use Rattle.chebyshev.specs.Lists.{listOf}
+use Rattle.common.specs.Lists.{listOf}
 use Rattle.chebyshev.specs.Recurrence.{rounded, weighted, weightedFrom}
 use Rattle.chebyshev.specs.Inverse.{Row, Matrix, cell, column}
-use Rattle.float.specs.Numbers.{nought}
+use Rattle.common.specs.Numbers.{nought}
 use Rattle.chebyshev.specs.Ideal.{transposed}
 use Rattle.chebyshev.specs.Coefficients.{scaledOnto}
-use Rattle.chebyshev.proofs.Filled.{length-listOf, getD-listOf}
+use Rattle.common.proofs.Filled.{length-listOf, getD-listOf}
 use Rattle.chebyshev.proofs.Sums.{weighted-step, weighted-end}
 
 -- the k-th element of a list by its index

@@ -2,10 +2,11 @@
 use Prim.Native.Nat.{ℕ}
 use lib.IntN.{pos}
 use mathlib.Core.Bool.{true}
-use lib.Ieee.{Float, fin, binary64, add, mul, div}
-use Rattle.float.specs.Numbers.{two, nine}
+use lib.Ieee.{Float, fin}
+use Rattle.common.specs.Rounded.{_⊕_, _⊗_, _⊘_}
+use Rattle.common.specs.Numbers.{two, nine}
 use Rattle.float.specs.Conversions.{nearestOf}
-use Rattle.chebyshev.specs.Lists.{listOf}
+use Rattle.common.specs.Lists.{listOf}
 use Rattle.chebyshev.specs.Recurrence.{rounded, polynomials}
 use Rattle.chebyshev.specs.Inverse.{Matrix, column, order}
 
@@ -15,7 +16,7 @@ minusOne = fin true 1 (pos 0)
 
 -- "ideal nodes −1 + 2k/9": −1.0 + ((2.0 × k) / 9.0), each operation rounded once
 abbrev pub idealNode : ℕ → Float
-idealNode k = add binary64 minusOne (div binary64 (mul binary64 two (nearestOf (pos k))) nine)
+idealNode k = minusOne ⊕ two ⊗ nearestOf (pos k) ⊘ nine
 
 -- row k holds T0 to T9 at node k
 abbrev pub idealMatrix : Matrix

@@ -1,16 +1,19 @@
--- The inverse of a ten by ten matrix of doubles by Gauss-Jordan elimination, "a column's pivot" found as document 01 says. A matrix is a
+-- The inverse of a ten by ten matrix of doubles by Gauss-Jordan elimination, each column's pivot found as document 01 says. A matrix is a
 -- list of ten rows of ten doubles, and each operation on doubles rounds once.
 use Prim.Native.Nat.{ℕ, zero, suc, _+_, _-_, _*_, _/_, _%_, _<_}
 use mathlib.Core.Path.{_≡_}
-use mathlib.Core.Bool.{Bool, true, false, not}
+use mathlib.Core.Bool.{Bool, true, false, not, cond}
 use mathlib.Core.List.{List, [], _∷_}
 use lib.Dec.{eqb}
 use lib.ListN.{length, getD, set, replicate}
-use lib.Ieee.{Float, nan, binary64, sub, mul, div, lt, ofBits}
-use Rattle.float.specs.Numbers.{nought, one}
+use lib.Ieee.{Float, nan, binary64, lt, ofBits}
+use Rattle.common.specs.Rounded.{_⊖_, _⊗_, _⊘_}
+use Rattle.common.specs.Numbers.{nought, one}
 use Rattle.float.specs.Signs.{magnitudeOf}
 use Rattle.chebyshev.specs.declared.inverse.Inverse.{Inverse}
-use Rattle.chebyshev.specs.Lists.{listOf}
+use Rattle.common.specs.Outcome.{Outcome, refused, answered}
+use Rattle.common.specs.Lists.{listOf}
+use Rattle.common.specs.Search.{firstBest}
 
 -- ten doubles
 abbrev pub Row : Type 0
@@ -36,21 +39,16 @@ singularRefusal = 8
 abbrev pub cell : Matrix → ℕ → ℕ → Float
 cell m r c = getD (getD m r []) c nan
 
--- a where the test holds, else b
-abbrev pub choose : {A : Type 0} → Bool → A → A → A
-choose true a b = a
-choose false a b = b
-
 -- each number of a row divided by p
 unfoldable pub divided : Float → Row → Row
 divided p [] = []
-divided p (x ∷ xs) = div binary64 x p ∷ divided p xs
+divided p (x ∷ xs) = (x ⊘ p) ∷ divided p xs
 
 -- a row less k times another
 unfoldable pub reduced : Float → Row → Row → Row
 reduced k [] ps = []
 reduced k (x ∷ xs) [] = x ∷ xs
-reduced k (x ∷ xs) (p ∷ ps) = sub binary64 x (mul binary64 k p) ∷ reduced k xs ps
+reduced k (x ∷ xs) (p ∷ ps) = (x ⊖ k ⊗ p) ∷ reduced k xs ps
 
 -- column c, from the first row to the last
 abbrev pub column : ℕ → Matrix → Row
@@ -60,15 +58,14 @@ column c m = listOf (λ r. cell m r c) order 0
 abbrev pub exchanged : ℕ → ℕ → Matrix → Matrix
 exchanged i j m = set (set m i (getD m j [])) j (getD m i [])
 
--- "The diagonal is the pivot unless a later row's magnitude compares greater than the best so far, so the first of equals wins":
--- of best and the n rows from r on, the row that column c takes its pivot from. A NaN compares greater than nothing, and nothing than it
-unfoldable pub seek : ℕ → ℕ → ℕ → Matrix → ℕ → ℕ
-seek zero c r m best = best
-seek (suc n) c r m best = seek n c (r + 1) m (choose (lt (magnitudeOf (cell m best c)) (magnitudeOf (cell m r c))) r best)
+-- row r has a greater magnitude in column c than row s. A NaN is greater than nothing, and nothing is greater than it
+abbrev pub greater : ℕ → Matrix → ℕ → ℕ → Bool
+greater c m r s = lt (magnitudeOf (cell m s c)) (magnitudeOf (cell m r c))
 
--- the row that column i takes its pivot from
+-- "The diagonal is the pivot unless a later row's magnitude compares greater than the best so far, so the first of equals wins":
+-- the row that column i takes its pivot from, of the diagonal's row and the later ones
 abbrev pub pivotRow : ℕ → Matrix → ℕ
-pivotRow i t = seek (order - (i + 1)) i (i + 1) t i
+pivotRow i t = firstBest (greater i t) i (listOf (λ r. r) (order - (i + 1)) (i + 1))
 
 -- "has a magnitude below 1e-12"; a NaN is not below it
 abbrev pub tooSmall : ℕ → Matrix → Bool
@@ -82,7 +79,7 @@ scaledAt i p m = set m i (divided p (getD m i []))
 unfoldable pub cleared : ℕ → Row → ℕ → Row → Matrix → Matrix
 cleared i ps r ks [] = []
 cleared i ps r [] (x ∷ xs) = x ∷ xs
-cleared i ps r (k ∷ ks) (x ∷ xs) = choose (eqb r i) x (reduced k x ps) ∷ cleared i ps (r + 1) ks xs
+cleared i ps r (k ∷ ks) (x ∷ xs) = cond (eqb r i) x (reduced k x ps) ∷ cleared i ps (r + 1) ks xs
 
 -- the same by row i of the matrix itself
 abbrev pub clearedBy : ℕ → Row → Matrix → Matrix
@@ -103,17 +100,12 @@ pub record Cleared (i : ℕ) (t v : Matrix) (taken : Bool) (t′ v′ : Matrix) 
   pub matrix : tooSmall i t ≡ false → t′ ≡ clearedColumn i t t
   pub inverse : tooSmall i t ≡ false → v′ ≡ clearedColumn i t v
 
--- what an inversion gives
-pub data Outcome : Type 0 where
-  singular : Outcome
-  inverse : Matrix → Outcome
-
--- the n columns from i on
-unfoldable pub columnsFrom : ℕ → ℕ → Matrix → Matrix → Outcome
-columnsFrom zero i t v = inverse v
+-- the n columns from i on: the rows of the inverse, or the refusal
+unfoldable pub columnsFrom : ℕ → ℕ → Matrix → Matrix → Outcome Matrix
+columnsFrom zero i t v = answered v
 columnsFrom (suc n) i t v =
     elim (tooSmall i t) [
-      | true ↦ singular
+      | true ↦ refused singularRefusal
       | false ↦
           let t1 = scaledPivot i t t in
           let v1 = scaledPivot i t v in
@@ -123,14 +115,14 @@ columnsFrom (suc n) i t v =
 
 -- the identity's numbers
 abbrev pub unitCell : ℕ → ℕ → Float
-unitCell r c = choose (eqb c r) one nought
+unitCell r c = cond (eqb c r) one nought
 
 -- the identity
 abbrev pub unitRows : Matrix
 unitRows = listOf (λ r. listOf (unitCell r) order 0) order 0
 
--- the inverse of a, or singular
-unfoldable pub inverted : Matrix → Outcome
+-- the rows of the inverse of a, or the refusal
+unfoldable pub inverted : Matrix → Outcome Matrix
 inverted a = columnsFrom order 0 a unitRows
 
 -- "in the inverse's answer it is 100 doubles, row after row": number 10 r + c is row r, column c
@@ -143,17 +135,12 @@ pub record RowPut (old : Row) (row : Row) (r : ℕ) (new : Row) : Type 0 where
   pub before : (k : ℕ) → k < order * r → getD new k nan ≡ getD old k nan
   pub within : (c : ℕ) → c < order → getD new (order * r + c) nan ≡ getD row c nan
 
--- the paper's number of each case, and its values: "an array ... that the language makes stand beside it is all zeros"
-abbrev pub refusalOf : Outcome → ℕ
-refusalOf singular = singularRefusal
-refusalOf (inverse v) = 0
-
--- the rows that stand beside the number
-abbrev pub rowsOf : Outcome → Matrix
-rowsOf singular = replicate order (replicate order nought)
-rowsOf (inverse v) = v
+-- the rows that stand beside the paper's number: "an array ... that the language makes stand beside it is all zeros"
+abbrev pub rowsOf : Outcome Matrix → Matrix
+rowsOf (refused n) = replicate order (replicate order nought)
+rowsOf (answered v) = v
 
 -- the number, and the hundred doubles beside it
-abbrev pub answerOf : Outcome → Inverse
-answerOf singular = record { refusal = singularRefusal; numbers = replicate (order * order) nought }
-answerOf (inverse v) = record { refusal = 0; numbers = flat v }
+abbrev pub answerOf : Outcome Matrix → Inverse
+answerOf (refused n) = record { refusal = n; numbers = replicate (order * order) nought }
+answerOf (answered v) = record { refusal = 0; numbers = flat v }

@@ -1,5 +1,4 @@
 -- The definitions of chebyshev: what each entry's answer is.
-pub mod Lists
 pub mod Recurrence
 pub mod Inverse
 pub mod Ideal

@@ -1,12 +1,11 @@
 -- The Chebyshev polynomials by DLMF 18.9's recurrence, their derivatives by the recurrence differentiated, and sums of ten of them.
--- Each is written once, over an arithmetic: `rounded` is a double's, each operation rounded once, and `exact` works on whole numbers over
--- powers of two and rounds nothing. So the rounded recurrence is the exact one with each operation rounded.
-use Prim.Native.Nat.{ℕ, zero, suc, _+_, _*_, _^_}
+-- Each is written once, over an arithmetic; `rounded` is a double's, each operation rounded once.
+use Prim.Native.Nat.{ℕ, zero, suc}
 use mathlib.Core.List.{List, [], _∷_}
-use lib.IntN.{ℤ, pos, _+ℤ_, _-ℤ_, _*ℤ_}
-use lib.Ieee.{Float, binary64, add, sub, mul}
-use Rattle.float.specs.Numbers as Numbers
-use Rattle.chebyshev.specs.Lists.{listOf}
+use lib.Ieee.{Float}
+use Rattle.common.specs.Rounded.{_⊕_, _⊖_, _⊗_}
+use Rattle.common.specs.Numbers as Numbers
+use Rattle.common.specs.Lists.{listOf}
 
 -- what the recurrence needs of a number
 pub record Arithmetic (A : Type 0) : Type 0 where
@@ -66,27 +65,7 @@ rounded = record {
   nought = Numbers.nought;
   unity = Numbers.one;
   two = Numbers.two;
-  plus = add binary64;
-  less = sub binary64;
-  times = mul binary64;
-}
-
--- a whole number over a power of two, over / 2 ^ places: every finite double is one
-pub record Dyadic : Type 0 where
-  pub over : ℤ
-  pub places : ℕ
-
--- z over so many places more
-abbrev pub shifted : ℤ → ℕ → ℤ
-shifted z k = z *ℤ pos (2 ^ k)
-
--- whole numbers over powers of two: nothing is rounded
-abbrev pub exact : Arithmetic Dyadic
-exact = record {
-  nought = record { over = pos 0; places = 0 };
-  unity = record { over = pos 1; places = 0 };
-  two = record { over = pos 2; places = 0 };
-  plus = λ x y. record { over = shifted (x .over) (y .places) +ℤ shifted (y .over) (x .places); places = x .places + y .places };
-  less = λ x y. record { over = shifted (x .over) (y .places) -ℤ shifted (y .over) (x .places); places = x .places + y .places };
-  times = λ x y. record { over = x .over *ℤ y .over; places = x .places + y .places };
+  plus = _⊕_;
+  less = _⊖_;
+  times = _⊗_;
 }

@@ -1,6 +1,7 @@
 // The inverse of the matrix of the ideal nodes, −1 + 2k/9 for k from 0 to 9, as a table.
 ghost use mathlib.Core.Path.{_≡_};
-ghost use Rattle.chebyshev.specs.Inverse.{inverted, inverse};
+ghost use Rattle.common.specs.Outcome.{answered};
+ghost use Rattle.chebyshev.specs.Inverse.{inverted};
 ghost use Rattle.chebyshev.specs.Ideal.{idealMatrix, transposed};
 
 // By columns: number j of column k is row j, column k of the inverse.
@@ -129,7 +130,7 @@ const IDEAL_COLUMNS: [[f64; 10]; 10] = [
 
 // The columns of the inverse of the ideal matrix, which is not refused.
 pub fn ideal_columns() -> [[f64; 10]; 10]
-    ensures { λ r. ⌜ inverted idealMatrix ≡ inverse (transposed r) ⌝ }
+    ensures { λ r. ⌜ inverted idealMatrix ≡ answered (transposed r) ⌝ }
 {
     IDEAL_COLUMNS
 }

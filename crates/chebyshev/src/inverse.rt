@@ -2,7 +2,8 @@
 ghost use mathlib.Core.Path.{_≡_};
 ghost use Prim.Native.Nat.{_<_};
 ghost use lib.ListN.{length};
-ghost use Rattle.chebyshev.specs.Inverse.{exchanged, divided, reduced, pivotRow, scaledAt, column, clearedBy, Cleared, RowPut, flat, inverted, rowsOf, refusalOf, answerOf};
+ghost use Rattle.common.specs.Outcome.{refusalIn};
+ghost use Rattle.chebyshev.specs.Inverse.{exchanged, divided, reduced, pivotRow, scaledAt, column, clearedBy, Cleared, RowPut, flat, inverted, rowsOf, answerOf};
 use float::magnitude;
 
 // Rows i and j exchanged, by value.
@@ -130,8 +131,8 @@ const IDENTITY: [[f64; 10]; 10] = [
 ];
 
 // The rows of the inverse of a, and 0 in `refusal`; or 8 there, and rows of zeros.
-pub fn gauss_jordan(a: [[f64; 10]; 10], refusal: &mut u8) -> [[f64; 10]; 10]
-    ensures { λ r. ⌜ (r ≡ rowsOf (inverted a)) × (now (refusal .exit) ≡ refusalOf (inverted a)) ⌝ }
+pub(crate) fn gauss_jordan(a: [[f64; 10]; 10], refusal: &mut u8) -> [[f64; 10]; 10]
+    ensures { λ r. ⌜ (r ≡ rowsOf (inverted a)) × (now (refusal .exit) ≡ refusalIn (inverted a)) ⌝ }
 {
     let mut t = a;
     let mut v = IDENTITY;

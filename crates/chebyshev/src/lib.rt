@@ -4,11 +4,11 @@ mod ideal;
 mod inverse;
 mod recurrence;
 
-pub use coefficients::coefficients_by;
+pub use coefficients::Coefficients;
+pub use coefficients::coefficients_through;
 pub use coefficients::ideal_coefficients;
 pub use ideal::ideal_columns;
 pub use inverse::Inverse;
-pub use inverse::gauss_jordan;
 pub use inverse::invert_matrix_10;
 pub use recurrence::Evaluation;
 pub use recurrence::evaluate_chebyshev;

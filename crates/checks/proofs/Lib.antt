@@ -3,4 +3,3 @@ mod Lists
 mod Orders
 pub mod First
 pub mod Passed
-pub mod Outcomes

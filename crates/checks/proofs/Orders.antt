@@ -44,5 +44,8 @@ pub not-before : (a b : ℤ) (t : Bool) → SFits w64 a → SFits w64 b → leZ 
 not-before a b t f g h = rw (not-below a b) (rw (toZ-ofZ w64 a f, toZ-ofZ w64 b g) at h)
 
 -- what a call of `beyond` said of an instant that the machine holds
+pub told : (t : ℤ) {r : Bool} → SFits w64 t → r ≡ beyond (toZ w64 (ofZ w64 t)) → r ≡ beyond t
+told t f e = rw (toZ-ofZ w64 t f) at e
+
 pub said : (t : ℤ) {r b : Bool} → SFits w64 t → r ≡ beyond (toZ w64 (ofZ w64 t)) → r ≡ b → beyond t ≡ b
-said t f e h = sym (rw (toZ-ofZ w64 t f) at e) ∙ h
+said t f e h = sym (told t f e) ∙ h

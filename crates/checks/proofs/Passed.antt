@@ -12,25 +12,26 @@ use lib.IntN.{ℤ, pos, natAbs}
 use lib.Signed.{ltZ, _<ℤ_}
 use lib.Ieee.{Float}
 use lib.ListN.{length, getD}
+use Rattle.checks.specs.Limits.{leastCoordinates, mostCoordinates, axes, mostSamples, farthestInstant}
 use Rattle.checks.specs.Checks.{any, miscounted, unsampled, tooShort, beyond, unrising}
 use Rattle.checks.specs.Entries.{firstFailing, evaluationChecks, propagationChecks, closestChecks, meansChecks, samplesChecks, fitChecks, passChecks}
 use Rattle.checks.specs.Passed.{Table, Samples}
-use Rattle.checks.proofs.First.{passed, neither}
+use Rattle.checks.proofs.First.{numbered, passes, without, never, neither}
 
 -- check 4, of one instant and of each of a list
-near-one : (t : ℤ) → beyond t ≡ false → natAbs t ≤ 4000000000000000000
-near-one t h = ltb-false 4000000000000000000 (natAbs t) h
+near-one : (t : ℤ) → beyond t ≡ false → natAbs t ≤ farthestInstant
+near-one t h = ltb-false farthestInstant (natAbs t) h
 
-near-each : (l : List ℤ) → any beyond l ≡ false → (k : ℕ) → natAbs (getD l k (pos 0)) ≤ 4000000000000000000
+near-each : (l : List ℤ) → any beyond l ≡ false → (k : ℕ) → natAbs (getD l k (pos 0)) ≤ farthestInstant
 unfolding any
 near-each [] h k = omega arith
 near-each (t ∷ l) h zero = near-one t (neither (beyond t) (any beyond l) h .0)
 near-each (t ∷ l) h (suc k) = near-each l (neither (beyond t) (any beyond l) h .1) k
 
-pub none-beyond : (l : List ℤ) → ((k : ℕ) → k < length l → natAbs (getD l k (pos 0)) ≤ 4000000000000000000) → any beyond l ≡ false
+pub none-beyond : (l : List ℤ) → ((k : ℕ) → k < length l → natAbs (getD l k (pos 0)) ≤ farthestInstant) → any beyond l ≡ false
 unfolding any
 none-beyond [] h = refl
-none-beyond (t ∷ l) h = rw (le-ltb 4000000000000000000 (natAbs t) (h 0 (omega arith))) (none-beyond l (λ k s. h (suc k) (omega arith)))
+none-beyond (t ∷ l) h = rw (le-ltb farthestInstant (natAbs t) (h 0 (omega arith))) (none-beyond l (λ k s. h (suc k) (omega arith)))
 
 -- check 5
 rising-each : (l : List ℤ) → unrising l ≡ false → (k : ℕ) → suc k < length l → getD l k (pos 0) <ℤ getD l (suc k) (pos 0)
@@ -44,12 +45,12 @@ rising-each (a ∷ b ∷ r) h (suc k) s = rising-each (b ∷ r) (neither (not (l
 table : (ts : List ℤ) (ps : List Float) → miscounted ts ps ≡ false → any beyond ts ≡ false → unrising ts ≡ false → Table ts ps
 table ts ps h1 h4 h5 =
     let n = length ts in
-    let both = neither (ltb n 10 || ltb 4096 n) (not (eqb (length ps) (3 * n))) h1 in
-    let ends = neither (ltb n 10) (ltb 4096 n) (both .0) in
+    let both = neither (ltb n leastCoordinates || ltb mostCoordinates n) (not (eqb (length ps) (axes * n))) h1 in
+    let ends = neither (ltb n leastCoordinates) (ltb mostCoordinates n) (both .0) in
     record {
-      enough = ltb-false n 10 (ends .0);
-      few = ltb-false 4096 n (ends .1);
-      three = eqb-true (length ps) (3 * n) (not-false (eqb (length ps) (3 * n)) (both .1));
+      enough = ltb-false n leastCoordinates (ends .0);
+      few = ltb-false mostCoordinates n (ends .1);
+      three = eqb-true (length ps) (axes * n) (not-false (eqb (length ps) (axes * n)) (both .1));
       rising = λ k s. rw add-one (rising-each ts h5 k (omega arith));
       near = near-each ts h4;
       risen = h5;
@@ -59,12 +60,12 @@ table ts ps h1 h4 h5 =
 samples : (ss : List ℤ) (fs : List Float) → unsampled ss fs ≡ false → any beyond ss ≡ false → Samples ss fs
 samples ss fs h2 h4 =
     let n = length ss in
-    let both = neither (eqb n 0 || ltb 4096 n) (not (eqb (length fs) n)) h2 in
-    let ends = neither (eqb n 0) (ltb 4096 n) (both .0) in
+    let both = neither (eqb n 0 || ltb mostSamples n) (not (eqb (length fs) n)) h2 in
+    let ends = neither (eqb n 0) (ltb mostSamples n) (both .0) in
     let some = eqb-false n 0 (ends .0) in
     record {
       some = omega (arith, some);
-      few = ltb-false 4096 n (ends .1);
+      few = ltb-false mostSamples n (ends .1);
       same = eqb-true (length fs) n (not-false (eqb (length fs) n) (both .1));
       near = near-each ss h4;
     }
@@ -75,111 +76,73 @@ areas ss ia fa h =
     let both = neither (ltb (length ia) (length ss)) (ltb (length fa) (length ss)) h in
     (ltb-false (length ia) (length ss) (both .0), ltb-false (length fa) (length ss) (both .1))
 
--- the entries
+-- the entries: each check by its place in the entry's list
 
-pub evaluation-near : (t : ℤ) → firstFailing (evaluationChecks t) ≡ 0 → natAbs t ≤ 4000000000000000000
-evaluation-near t h = near-one t (passed 3 _ _ h .0)
+pub evaluation-near : (t : ℤ) → firstFailing (evaluationChecks t) ≡ 0 → natAbs t ≤ farthestInstant
+unfolding numbered
+evaluation-near t h = near-one t (passes (evaluationChecks t) 0 tt h)
 
 module _ (ts : List ℤ) (ps : List Float) (t : ℤ) (h : firstFailing (propagationChecks ts ps t) ≡ 0) where
   pub propagation-table : Table ts ps
-  propagation-table =
-      let h1 = passed 0 _ _ h in
-      let h4 = passed 3 _ _ (h1 .1) in
-      let h5 = passed 4 _ _ (h4 .1) in
-      table ts ps (h1 .0) (neither (any beyond ts) (beyond t) (h4 .0) .0) (h5 .0)
+  unfolding numbered
+  propagation-table = table ts ps (passes (propagationChecks ts ps t) 0 tt h) (passes (propagationChecks ts ps t) 1 tt h) (passes (propagationChecks ts ps t) 3 tt h)
 
-  pub propagation-near : natAbs t ≤ 4000000000000000000
-  propagation-near =
-      let h1 = passed 0 _ _ h in
-      let h4 = passed 3 _ _ (h1 .1) in
-      near-one t (neither (any beyond ts) (beyond t) (h4 .0) .1)
+  pub propagation-near : natAbs t ≤ farthestInstant
+  unfolding numbered
+  propagation-near = near-one t (passes (propagationChecks ts ps t) 2 tt h)
 
 module _ (ts : List ℤ) (ps : List Float) (ox oy oz : Float) (t : ℤ) (h : firstFailing (closestChecks ts ps ox oy oz t) ≡ 0) where
   pub closest-table : Table ts ps
-  closest-table =
-      let h1 = passed 0 _ _ h in
-      let h4 = passed 3 _ _ (h1 .1) in
-      let h5 = passed 4 _ _ (h4 .1) in
-      table ts ps (h1 .0) (neither (any beyond ts) (beyond t) (h4 .0) .0) (h5 .0)
+  unfolding numbered
+  closest-table = table ts ps (passes (closestChecks ts ps ox oy oz t) 0 tt h) (passes (closestChecks ts ps ox oy oz t) 1 tt h) (passes (closestChecks ts ps ox oy oz t) 3 tt h)
 
-  pub closest-near : natAbs t ≤ 4000000000000000000
-  closest-near =
-      let h1 = passed 0 _ _ h in
-      let h4 = passed 3 _ _ (h1 .1) in
-      near-one t (neither (any beyond ts) (beyond t) (h4 .0) .1)
+  pub closest-near : natAbs t ≤ farthestInstant
+  unfolding numbered
+  closest-near = near-one t (passes (closestChecks ts ps ox oy oz t) 2 tt h)
 
-module _ (ss : List ℤ) (fs : List Float) (h : firstFailing (samplesChecks ss fs) ≡ 0) where
-  pub samples-samples : Samples ss fs
-  samples-samples =
-      let h2 = passed 1 _ _ h in
-      let h4 = passed 3 _ _ (h2 .1) in
-      samples ss fs (h2 .0) (h4 .0)
+pub samples-samples : (ss : List ℤ) (fs : List Float) → firstFailing (samplesChecks ss fs) ≡ 0 → Samples ss fs
+unfolding numbered
+samples-samples ss fs h = samples ss fs (passes (samplesChecks ss fs) 0 tt h) (passes (samplesChecks ss fs) 1 tt h)
 
 module _ (ss : List ℤ) (fs : List Float) (ia : List ℤ) (fa : List Float) (h : firstFailing (meansChecks ss fs ia fa) ≡ 0) where
   pub means-samples : Samples ss fs
-  means-samples =
-      let h2 = passed 1 _ _ h in
-      let h3 = passed 2 _ _ (h2 .1) in
-      let h4 = passed 3 _ _ (h3 .1) in
-      samples ss fs (h2 .0) (h4 .0)
+  unfolding numbered
+  means-samples = samples ss fs (passes (meansChecks ss fs ia fa) 0 tt h) (passes (meansChecks ss fs ia fa) 2 tt h)
 
   pub means-areas : (length ss ≤ length ia) × (length ss ≤ length fa)
-  means-areas =
-      let h2 = passed 1 _ _ h in
-      let h3 = passed 2 _ _ (h2 .1) in
-      areas ss ia fa (h3 .0)
+  unfolding numbered
+  means-areas = areas ss ia fa (passes (meansChecks ss fs ia fa) 1 tt h)
 
 module _ (ts : List ℤ) (ps : List Float) (ss : List ℤ) (fs : List Float) (ox oy oz f0 : Float) (t : ℤ) (h : firstFailing (fitChecks ts ps ss fs ox oy oz f0 t) ≡ 0) where
-  fit-four : (any beyond ts ≡ false) × (any beyond ss ≡ false) × (beyond t ≡ false)
-  fit-four =
-      let h1 = passed 0 _ _ h in
-      let h2 = passed 1 _ _ (h1 .1) in
-      let h4 = passed 3 _ _ (h2 .1) in
-      let both = neither (any beyond ts || any beyond ss) (beyond t) (h4 .0) in
-      let lists = neither (any beyond ts) (any beyond ss) (both .0) in
-      (lists .0, lists .1, both .1)
-
   pub fit-table : Table ts ps
-  fit-table =
-      let h1 = passed 0 _ _ h in
-      let h2 = passed 1 _ _ (h1 .1) in
-      let h4 = passed 3 _ _ (h2 .1) in
-      let h5 = passed 4 _ _ (h4 .1) in
-      table ts ps (h1 .0) (fit-four .0) (h5 .0)
+  unfolding numbered
+  fit-table = table ts ps (passes (fitChecks ts ps ss fs ox oy oz f0 t) 0 tt h) (passes (fitChecks ts ps ss fs ox oy oz f0 t) 2 tt h) (passes (fitChecks ts ps ss fs ox oy oz f0 t) 5 tt h)
 
   pub fit-samples : Samples ss fs
-  fit-samples =
-      let h1 = passed 0 _ _ h in
-      let h2 = passed 1 _ _ (h1 .1) in
-      samples ss fs (h2 .0) (fit-four .1)
+  unfolding numbered
+  fit-samples = samples ss fs (passes (fitChecks ts ps ss fs ox oy oz f0 t) 1 tt h) (passes (fitChecks ts ps ss fs ox oy oz f0 t) 3 tt h)
 
-  pub fit-near : natAbs t ≤ 4000000000000000000
-  fit-near = near-one t (fit-four .2)
+  pub fit-near : natAbs t ≤ farthestInstant
+  unfolding numbered
+  fit-near = near-one t (passes (fitChecks ts ps ss fs ox oy oz f0 t) 4 tt h)
 
 module _ (ts : List ℤ) (ps : List Float) (ss : List ℤ) (fs : List Float) (ox oy oz f0 : Float) (ia : List ℤ) (fa : List Float) (h : firstFailing (passChecks ts ps ss fs ox oy oz f0 ia fa) ≡ 0) where
   pub pass-table : Table ts ps
-  pass-table =
-      let h1 = passed 0 _ _ h in
-      let h2 = passed 1 _ _ (h1 .1) in
-      let h3 = passed 2 _ _ (h2 .1) in
-      let h4 = passed 3 _ _ (h3 .1) in
-      let h5 = passed 4 _ _ (h4 .1) in
-      table ts ps (h1 .0) (neither (any beyond ts) (any beyond ss) (h4 .0) .0) (h5 .0)
+  unfolding numbered
+  pass-table = table ts ps (passes (passChecks ts ps ss fs ox oy oz f0 ia fa) 0 tt h) (passes (passChecks ts ps ss fs ox oy oz f0 ia fa) 3 tt h) (passes (passChecks ts ps ss fs ox oy oz f0 ia fa) 5 tt h)
 
   pub pass-samples : Samples ss fs
-  pass-samples =
-      let h1 = passed 0 _ _ h in
-      let h2 = passed 1 _ _ (h1 .1) in
-      let h3 = passed 2 _ _ (h2 .1) in
-      let h4 = passed 3 _ _ (h3 .1) in
-      samples ss fs (h2 .0) (neither (any beyond ts) (any beyond ss) (h4 .0) .1)
+  unfolding numbered
+  pass-samples = samples ss fs (passes (passChecks ts ps ss fs ox oy oz f0 ia fa) 1 tt h) (passes (passChecks ts ps ss fs ox oy oz f0 ia fa) 4 tt h)
 
   pub pass-areas : (length ss ≤ length ia) × (length ss ≤ length fa)
-  pass-areas =
-      let h1 = passed 0 _ _ h in
-      let h2 = passed 1 _ _ (h1 .1) in
-      let h3 = passed 2 _ _ (h2 .1) in
-      areas ss ia fa (h3 .0)
+  unfolding numbered
+  pass-areas = areas ss ia fa (passes (passChecks ts ps ss fs ox oy oz f0 ia fa) 2 tt h)
+
+-- check 10 is none of the pass's
+pub pass-never-ten : (ts : List ℤ) (ps : List Float) (ss : List ℤ) (fs : List Float) (ox oy oz f0 : Float) (ia : List ℤ) (fa : List Float) → firstFailing (passChecks ts ps ss fs ox oy oz f0 ia fa) ≡ 10 → ⊥
+unfolding without
+pass-never-ten ts ps ss fs ox oy oz f0 ia fa = never 9 (passChecks ts ps ss fs ox oy oz f0 ia fa) tt
 
 -- the other way
 
@@ -188,7 +151,7 @@ module _ (ss : List ℤ) (fs : List Float) (s : Samples ss fs) where
   sampled =
       rw (
         ne-eqb (length ss) 0 (λ e. omega arith),
-        le-ltb 4096 (length ss) (s .few),
+        le-ltb mostSamples (length ss) (s .few),
         eq-eqb (length fs) (length ss) (s .same),
       )
 

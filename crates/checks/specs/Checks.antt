@@ -8,8 +8,8 @@ use lib.Signed.{ltZ}
 use lib.ListN.{length}
 use lib.Ieee.{Float, nan, inf, fin, lt, le}
 use Rattle.float.specs.Signs.{magnitudeOf}
-use Rattle.checks.specs.Limits.{leastCoordinates, mostCoordinates, axes, mostSamples, farthestInstant, farthest, closest}
-use Rattle.float.specs.Numbers.{nought}
+use Rattle.checks.specs.Limits.{leastCoordinates, mostCoordinates, axes, mostSamples, farthestInstant, largestComponent, leastComponent}
+use Rattle.common.specs.Numbers.{nought}
 
 -- whether one of a list is such
 unfoldable pub any : {A : Type 0} → (A → Bool) → List A → Bool
@@ -38,13 +38,13 @@ unrising [] = false
 unrising (a ∷ []) = false
 unrising (a ∷ b ∷ r) = not (ltZ a b) || unrising (b ∷ r)
 
--- 6. "A component not finite or over 100,000,000 m in magnitude": an infinity or a NaN is not at most that
+-- 6. "a component not finite or over 100,000,000 m in magnitude": an infinity or a NaN is not at most that
 abbrev pub unreachable : Float → Bool
-unreachable c = not (le (magnitudeOf c) farthest)
+unreachable c = not (le (magnitudeOf c) largestComponent)
 
 -- 6. "or with all three magnitudes under 1,000,000 m (kilometres, or a blank entry)"
 abbrev pub inside : Float → Bool
-inside c = lt (magnitudeOf c) closest
+inside c = lt (magnitudeOf c) leastComponent
 
 -- 6. of one place: a component is unreachable, or all three are inside
 abbrev pub misplaced : Float → Float → Float → Bool
@@ -58,11 +58,11 @@ anyMisplaced (x ∷ y ∷ []) = false
 anyMisplaced (x ∷ y ∷ z ∷ r) = misplaced x y z || anyMisplaced r
 
 -- 7. "A sample frequency not finite"
-unfoldable pub infinite : Float → Bool
-infinite nan = true
-infinite (inf s) = true
-infinite (fin s m e) = false
+unfoldable pub notFinite : Float → Bool
+notFinite nan = true
+notFinite (inf s) = true
+notFinite (fin s m e) = false
 
 -- 7. "or a centre frequency not finite or not above zero"
 abbrev pub noCentre : Float → Bool
-noCentre f0 = infinite f0 || not (lt nought f0)
+noCentre f0 = notFinite f0 || not (lt nought f0)

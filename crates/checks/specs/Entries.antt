@@ -1,10 +1,11 @@
--- "Every entry makes those checks, in this order, whose inputs it takes": the order is written once here for each entry, by number.
-use Prim.Native.Nat.{ℕ}
-use mathlib.Core.Bool.{Bool, true, false, _||_}
+-- "Every entry makes those checks, in this order, whose inputs it takes": the order is written once here for each entry, by number, a line for each of the
+-- inputs that a check looks at.
+use Prim.Native.Nat.{ℕ, zero, suc}
+use mathlib.Core.Bool.{Bool, cond}
 use mathlib.Core.List.{List, [], _∷_}
 use lib.IntN.{ℤ}
 use lib.Ieee.{Float}
-use Rattle.checks.specs.Checks.{any, miscounted, unsampled, tooShort, beyond, unrising, misplaced, anyMisplaced, infinite, noCentre}
+use Rattle.checks.specs.Checks.{any, miscounted, unsampled, tooShort, beyond, unrising, misplaced, anyMisplaced, notFinite, noCentre}
 
 -- a check by its number, and whether it fails
 pub record Check : Type 0 where
@@ -15,15 +16,15 @@ pub record Check : Type 0 where
 abbrev pub check : ℕ → Bool → Check
 check n b = record { number = n; fails = b }
 
--- the number n where its check fails, else what the rest gives
-abbrev pub pick : Bool → ℕ → ℕ → ℕ
-pick true n rest = n
-pick false n rest = rest
-
 -- the number of the first check that fails, 0 where none does
 unfoldable pub firstFailing : List Check → ℕ
 firstFailing [] = 0
-firstFailing (c ∷ cs) = pick (c .fails) (c .number) (firstFailing cs)
+firstFailing (c ∷ cs) = cond (c .fails) (c .number) (firstFailing cs)
+
+-- one check more: a refusal so far stands, and without one a check that fails gives its number
+abbrev pub orElse : ℕ → Check → ℕ
+orElse zero c = cond (c .fails) (c .number) 0
+orElse (suc n) c = suc n
 
 -- `evaluate`: the instant
 abbrev pub evaluationChecks : ℤ → List Check
@@ -33,7 +34,8 @@ evaluationChecks t = check 4 (beyond t) ∷ []
 abbrev pub propagationChecks : List ℤ → List Float → ℤ → List Check
 propagationChecks instants positions t =
     check 1 (miscounted instants positions)
-    ∷ check 4 (any beyond instants || beyond t)
+    ∷ check 4 (any beyond instants)
+    ∷ check 4 (beyond t)
     ∷ check 5 (unrising instants)
     ∷ check 6 (anyMisplaced positions)
     ∷ []
@@ -42,9 +44,11 @@ propagationChecks instants positions t =
 abbrev pub closestChecks : List ℤ → List Float → Float → Float → Float → ℤ → List Check
 closestChecks instants positions ox oy oz t =
     check 1 (miscounted instants positions)
-    ∷ check 4 (any beyond instants || beyond t)
+    ∷ check 4 (any beyond instants)
+    ∷ check 4 (beyond t)
     ∷ check 5 (unrising instants)
-    ∷ check 6 (anyMisplaced positions || misplaced ox oy oz)
+    ∷ check 6 (anyMisplaced positions)
+    ∷ check 6 (misplaced ox oy oz)
     ∷ []
 
 -- `downsample_data`: the samples and the two areas
@@ -67,10 +71,14 @@ abbrev pub fitChecks : List ℤ → List Float → List ℤ → List Float → F
 fitChecks instants positions samples frequencies ox oy oz f0 measured =
     check 1 (miscounted instants positions)
     ∷ check 2 (unsampled samples frequencies)
-    ∷ check 4 ((any beyond instants || any beyond samples) || beyond measured)
+    ∷ check 4 (any beyond instants)
+    ∷ check 4 (any beyond samples)
+    ∷ check 4 (beyond measured)
     ∷ check 5 (unrising instants)
-    ∷ check 6 (anyMisplaced positions || misplaced ox oy oz)
-    ∷ check 7 (any infinite frequencies || noCentre f0)
+    ∷ check 6 (anyMisplaced positions)
+    ∷ check 6 (misplaced ox oy oz)
+    ∷ check 7 (any notFinite frequencies)
+    ∷ check 7 (noCentre f0)
     ∷ []
 
 -- the pass entry: the same without the instant, and the two areas
@@ -79,8 +87,11 @@ passChecks instants positions samples frequencies ox oy oz f0 instantArea freque
     check 1 (miscounted instants positions)
     ∷ check 2 (unsampled samples frequencies)
     ∷ check 3 (tooShort samples instantArea frequencyArea)
-    ∷ check 4 (any beyond instants || any beyond samples)
+    ∷ check 4 (any beyond instants)
+    ∷ check 4 (any beyond samples)
     ∷ check 5 (unrising instants)
-    ∷ check 6 (anyMisplaced positions || misplaced ox oy oz)
-    ∷ check 7 (any infinite frequencies || noCentre f0)
+    ∷ check 6 (anyMisplaced positions)
+    ∷ check 6 (misplaced ox oy oz)
+    ∷ check 7 (any notFinite frequencies)
+    ∷ check 7 (noCentre f0)
     ∷ []

@@ -25,9 +25,9 @@ abbrev pub farthestInstant : ℕ
 farthestInstant = 4000000000000000000
 
 -- "over 100,000,000 m in magnitude": 5 ^ 8 * 2 ^ 8
-abbrev pub farthest : Float
-farthest = fin false 390625 (pos 8)
+abbrev pub largestComponent : Float
+largestComponent = fin false 390625 (pos 8)
 
 -- "all three magnitudes under 1,000,000 m": 5 ^ 6 * 2 ^ 6
-abbrev pub closest : Float
-closest = fin false 15625 (pos 6)
+abbrev pub leastComponent : Float
+leastComponent = fin false 15625 (pos 6)

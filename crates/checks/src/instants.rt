@@ -1,16 +1,21 @@
 // Checks 1 to 5: counts, lengths and instants.
 ghost use mathlib.Core.Path.{_≡_};
 ghost use Rattle.checks.specs.Checks.{any, miscounted, unsampled, tooShort, beyond, unrising};
+use crate::limits::EARLIEST_INSTANT;
+use crate::limits::LATEST_INSTANT;
+use crate::limits::LEAST_COORDINATES;
+use crate::limits::MOST_COORDINATES;
+use crate::limits::MOST_SAMPLES;
 
 // Check 1: too few or too many coordinates, or positions that are not three doubles each.
 pub(crate) fn miscounted(instants: &[i64], positions: &[f64]) -> bool
     ensures { λ r. ⌜ r ≡ miscounted (now (instants .entry)) (now (positions .entry)) ⌝ }
 {
     let n = instants.len();
-    if n < 10 {
+    if n < LEAST_COORDINATES {
         return true;
     }
-    if n > 4096 {
+    if n > MOST_COORDINATES {
         return true;
     }
     positions.len() != 3 * n
@@ -24,7 +29,7 @@ pub(crate) fn unsampled(instants: &[i64], frequencies: &[f64]) -> bool
     if count == 0 {
         return true;
     }
-    if count > 4096 {
+    if count > MOST_SAMPLES {
         return true;
     }
     frequencies.len() != count
@@ -44,10 +49,10 @@ pub(crate) fn too_short(samples: &[i64], instant_area: &[i64], frequency_area: &
 pub(crate) fn beyond(t: i64) -> bool
     ensures { λ r. ⌜ r ≡ beyond t ⌝ }
 {
-    if t > 4000000000000000000 {
+    if t > LATEST_INSTANT {
         return true;
     }
-    t < -4000000000000000000
+    t < EARLIEST_INSTANT
 }
 
 // Check 4 of a slice.

@@ -2,6 +2,7 @@
 // A refusal is its number; 0 is none.
 mod entries;
 mod instants;
+mod limits;
 mod numbers;
 mod places;
 
@@ -12,3 +13,10 @@ pub use entries::refuse_means;
 pub use entries::refuse_pass;
 pub use entries::refuse_propagation;
 pub use entries::refuse_samples;
+pub use limits::EARLIEST_INSTANT;
+pub use limits::LARGEST_COMPONENT;
+pub use limits::LATEST_INSTANT;
+pub use limits::LEAST_COMPONENT;
+pub use limits::LEAST_COORDINATES;
+pub use limits::MOST_COORDINATES;
+pub use limits::MOST_SAMPLES;

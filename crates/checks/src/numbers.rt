@@ -1,11 +1,11 @@
 // Check 7: frequencies, in hertz.
 ghost use mathlib.Core.Path.{_≡_};
-ghost use Rattle.checks.specs.Checks.{any, infinite, noCentre};
+ghost use Rattle.checks.specs.Checks.{any, notFinite, noCentre};
 use float::magnitude;
 
 // A double that is not finite.
-pub(crate) fn infinite(x: f64) -> bool
-    ensures { λ r. ⌜ r ≡ infinite x ⌝ }
+pub(crate) fn not_finite(x: f64) -> bool
+    ensures { λ r. ⌜ r ≡ notFinite x ⌝ }
 {
     !(magnitude(x) < 1.0 / 0.0)
 }
@@ -14,18 +14,18 @@ pub(crate) fn infinite(x: f64) -> bool
 pub(crate) fn no_centre(f0: f64) -> bool
     ensures { λ r. ⌜ r ≡ noCentre f0 ⌝ }
 {
-    if infinite(f0) {
+    if not_finite(f0) {
         return true;
     }
     !(0.0 < f0)
 }
 
 // Check 7 of a slice.
-pub(crate) fn any_infinite(frequencies: &[f64]) -> bool
-    ensures { λ r. ⌜ r ≡ any infinite (now (frequencies .entry)) ⌝ }
+pub(crate) fn any_not_finite(frequencies: &[f64]) -> bool
+    ensures { λ r. ⌜ r ≡ any notFinite (now (frequencies .entry)) ⌝ }
 {
     for i in 0..frequencies.len() {
-        if infinite(frequencies[i]) {
+        if not_finite(frequencies[i]) {
             return true;
         }
     }

@@ -1,20 +1,22 @@
 // Check 6: coordinates and the observer, in metres.
 ghost use mathlib.Core.Path.{_≡_};
 ghost use Rattle.checks.specs.Checks.{unreachable, inside, misplaced, anyMisplaced};
+use crate::limits::LARGEST_COMPONENT;
+use crate::limits::LEAST_COMPONENT;
 use float::magnitude;
 
 // A component that is not finite or over 100,000,000 m in magnitude.
 fn unreachable(c: f64) -> bool
     ensures { λ r. ⌜ r ≡ unreachable c ⌝ }
 {
-    !(magnitude(c) <= 100000000.0)
+    !(magnitude(c) <= LARGEST_COMPONENT)
 }
 
 // A component under 1,000,000 m in magnitude.
 fn inside(c: f64) -> bool
     ensures { λ r. ⌜ r ≡ inside c ⌝ }
 {
-    magnitude(c) < 1000000.0
+    magnitude(c) < LEAST_COMPONENT
 }
 
 // A place that no satellite or observer can have: too far, or given in kilometres or left blank.

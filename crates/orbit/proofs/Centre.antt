@@ -6,7 +6,7 @@ use Prim.Native.Nat.{ℕ, zero, suc, _+_, _*_, _/_, _≤_}
 use native.Mathlib.Omega.{arith}
 use lib.IntN.{ℤ, pos, negsuc, negℤ, natAbs, _+ℤ_, _-ℤ_, _*ℤ_, +ℤ-assoc, +ℤ-invr, +ℤ-idl, negℤ-+ℤ}
 use lib.Signed.{mag, quotZ}
-use lib.Ieee.{Float, div}
+use lib.Ieee.{Float}
 use Rattle.units.specs.declared.Observer.{Observer}
 use Rattle.float.specs.Signs.{Within}
 use Rattle.float.specs.Conversions.{nearestOf}

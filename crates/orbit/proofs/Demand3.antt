@@ -7,28 +7,34 @@ use mathlib.Core.List.{List, [], _∷_, _++_, map, List·Memᴰ}
 use Prim.Native.Nat.{ℕ, zero, suc, _+_, _/_, _≤_, _<_}
 use native.Mathlib.Omega.{arith}
 use lib.Dec.{T, ltb, ltb→lt, lt→ltb}
-use lib.Ieee.Fits.{and-l, and-r}
-use lib.IntN.{ℤ}
+use lib.Ieee.Fits.{and-l, and-r, and-i}
+use lib.IntN.{ℤ, pos, negℤ, _+ℤ_}
 use lib.ListN.{length, getD, drop, length-map}
 use lib.Ieee.{Float, nan, binary64, sub, lt, le}
+use Rattle.common.specs.Search.{Searched}
 use Rattle.float.specs.Root.{root}
 use Rattle.float.specs.Signs.{magnitudeOf}
-use Rattle.checks.specs.Outcome.{Outcome, refused, answered, unlessRefused, area}
-use Rattle.checks.specs.Entries.{check, firstFailing}
-use Rattle.checks.proofs.Passed.{pass-areas}
+use Rattle.chebyshev.specs.Inverse.{Matrix}
+use Rattle.common.specs.Outcome.{Outcome, refused, answered, unlessRefused, area}
+use Rattle.checks.proofs.Passed.{pass-areas, pass-never-ten}
 use Rattle.samples.specs.Means.{Sample, recording, wholeSecond, bin, seconds, meanOf, means, instants, frequencies, Alike}
+use Rattle.samples.specs.Approach.{gapOf}
+use Rattle.samples.proofs.FirstSlope.{Falls, FirstFall, nine-exactly, first-approach}
 use Rattle.samples.proofs.Seconds.{Rising, rising, held, listed, seconds-are, count-means, few-means, same-means}
 use Rattle.samples.proofs.OwnSeconds.{own-seconds, means-rise}
 use Rattle.float.proofs.Comparison.{le-not-lt}
-use Rattle.float.specs.Numbers.{nought, largestFinite}
+use Rattle.common.specs.Numbers.{nought, largestFinite}
 use Rattle.orbit.specs.declared.fit.Report.{Report}
+use Rattle.orbit.specs.declared.closest.Nearest.{Nearest}
+use Rattle.orbit.proofs.Models.{inversion-eight}
 use Rattle.orbit.specs.Window.{windowSeconds, windowStart, inversionOf, modelOr}
-use Rattle.chebyshev.specs.Inverse.{Outcome as Inversion, singular, inverse}
 use Rattle.orbit.specs.Propagation.{Motion, evaluated, propagated}
+use Rattle.orbit.specs.Closest.{movedBySeconds, nearer, centred, rangedAt, minute, firstMinute, minuteSteps, secondSteps, byMinutes, bySeconds, closestInstant}
 use Rattle.orbit.specs.Fit.{Trial, trial, usable, five, fifteen, tenth, twentieth, thousandth, hundredThousandth, around, coarse, fine, micro, shifts, report, centreOf, fitted}
 use Rattle.orbit.specs.Residuals.{Inputs, moved, residualIn, residualOf, keep, residuals, meanOver, deviation}
-use Rattle.orbit.specs.Passes.{measuredOf, passOutcome, passRefusal, passReport, passInstants, passFrequencies}
-use Rattle.orbit.proofs.FirstLeast.{at-least-the-winner's, place, and-both, NoCoarse, refused-exactly, Chosen, exactly-one}
+use Rattle.orbit.specs.Passes.{approachOr, middleOf, measuredOf, passOutcome, passRefusal, passReport, passInstants, passFrequencies}
+use Rattle.orbit.proofs.FirstRange.{first-minute, first-second}
+use Rattle.orbit.proofs.FirstLeast.{at-least-the-winner's, place, NoCoarse, refused-exactly, Chosen, exactly-one}
 use Rattle.orbit.proofs.ListOfShifts.{Stage, around-stage, fine-stage, micro-stage, coarse-length, Listing, coarse-alone, listing, listing-length}
 
 -- ---- the means
@@ -52,9 +58,13 @@ pub record Own (S : List Sample) : Type 0 where
 abbrev pub tried : Inputs → List Sample → Float → Trial
 tried i S = trial (residualOf i) (means S)
 
+-- the measured instant of the means, in nanoseconds
+abbrev pub measuredFor : List Sample → ℤ
+measuredFor S = measuredOf (means S)
+
 -- the first centre
 abbrev pub centreFor : Inputs → List Sample → Float
-centreFor i S = centreOf i (measuredOf (means S))
+centreFor i S = centreOf i (measuredFor S)
 
 -- "The shifts are one list, fixed by the inputs through the definitions"
 abbrev pub shiftsFor : Inputs → List Sample → List Float
@@ -63,6 +73,42 @@ shiftsFor i S = shifts (tried i S) (centreFor i S)
 -- the trial of the shift at a place of the list
 abbrev pub triedAt : Inputs → List Sample → ℕ → Trial
 triedAt i S = place (tried i S) (shiftsFor i S)
+
+-- ---- the centre
+
+-- about mean j the frequency falls: the seconds about it are above zero, and the slope is below zero
+abbrev pub FallsAt : List Sample → ℕ → Type 0
+FallsAt S j = Falls (instants (means S)) (frequencies (means S)) j
+
+-- "the first least below zero" is about mean k
+abbrev pub FirstFallAt : List Sample → ℕ → Type 0
+FirstFallAt S k = FirstFall (instants (means S)) (frequencies (means S)) k
+
+-- the predicted instant: that of the closest approach about the measured one, in nanoseconds
+abbrev pub predictedFor : Inputs → List Sample → ℤ
+predictedFor i S = closestInstant (i .tolerance) (i .instants) (i .positions) (i .observer) (measuredFor S)
+
+-- the offsets of a stage of the search for it, with their squared ranges
+abbrev pub rangesFor : Inputs → List Sample → ℤ → ℕ → ℕ → Nearest
+rangesFor i S = rangedAt (i .tolerance) (i .instants) (i .positions) (i .observer) (measuredFor S)
+
+-- the nearest by minutes
+abbrev pub minutesFor : Inputs → List Sample → Nearest
+minutesFor i S = byMinutes (i .tolerance) (i .instants) (i .positions) (i .observer) (measuredFor S)
+
+-- the nearest by seconds
+abbrev pub secondsFor : Inputs → List Sample → Nearest
+secondsFor i S = bySeconds (i .tolerance) (i .instants) (i .positions) (i .observer) (measuredFor S)
+
+-- how the first centre is fixed: measured minus predicted. Where the frequency falls about a mean, the measured instant is that of the one mean that is the first of the least slopes, else that of the mean at
+-- index count/2; the predicted one is the measured one moved by the offset of the first least squared range by minutes, then by seconds, each stage keeping its centre where no offset counts
+pub record CentreIs (i : Inputs) (S : List Sample) : Type 0 where
+  pub difference : centreFor i S ≡ gapOf (predictedFor i S) (measuredFor S)
+  pub first-fall : (j : ℕ) → FallsAt S j → (k : ℕ) × FirstFallAt S k × (measuredFor S ≡ getD (instants (means S)) k (pos 0)) × ((l : ℕ) → FirstFallAt S l → l ≡ k)
+  pub else-middle : ((j : ℕ) → FallsAt S j → ⊥) → measuredFor S ≡ middleOf (instants (means S))
+  pub by-minutes : Searched nearer (centred (pos 0)) (rangesFor i S firstMinute minute) 0 minuteSteps (minutesFor i S)
+  pub by-seconds : Searched nearer (centred (minutesFor i S .offset)) (rangesFor i S (minutesFor i S .offset +ℤ negℤ (pos minute)) 1) 0 secondSteps (secondsFor i S)
+  pub predicted : predictedFor i S ≡ movedBySeconds (measuredFor S) (secondsFor i S .offset)
 
 -- ---- usable
 
@@ -127,12 +173,13 @@ pub record Choice (i : Inputs) (S : List Sample) (k : ℕ) : Type 0 where
 
 -- ---- the demand
 
--- of any inputs i and recording S: what its means are, how many, when a shift is usable, which the shifts are, when the outcome is 10, else which place is reported and what stands in the report;
+-- of any inputs i and recording S: what its means are, how many, how the centre is fixed, when a shift is usable, which the shifts are, when the outcome is 10, else which place is reported and what stands in the report;
 -- and that means and outcome depend on the samples of each whole second and their order there alone. A call that passes checks 1 to 7 answers this outcome (`one-call`)
 pub record Demand3 (i : Inputs) (S : List Sample) : Type 0 where
   pub listed : Listed S
   pub own : Own S
   pub count : length (means S) ≡ length (seconds S)
+  pub centre : CentreIs i S
   pub usable : Usable i S
   pub shifts : ShiftsAre i S
   pub refusal : (passOutcome i S ≡ refused 10) ↔ NoCoarse (tried i S) (centreFor i S)
@@ -154,11 +201,31 @@ left-many i x (m ∷ ms) = go (propagated (i .tolerance) (i .instants) (i .posit
 
 -- propagation is refused by 8 alone
 refused-by-8 : (i : Inputs) (t : ℤ) (n : ℕ) → propagated (i .tolerance) (i .instants) (i .positions) t ≡ refused n → n ≡ 8
-refused-by-8 i t n e = go (inversionOf (i .tolerance) (windowSeconds (i .instants) (windowStart (i .instants) t))) e
+refused-by-8 i t n e = go (inversionOf (i .tolerance) (windowSeconds (i .instants) (windowStart (i .instants) t))) refl e
   where
-    go : (v : Inversion) → evaluated (modelOr v (windowSeconds (i .instants) (windowStart (i .instants) t)) (i .positions) (windowStart (i .instants) t)) t ≡ refused n → n ≡ 8
-    go singular e = cc
-    go (inverse v) e = let z : _≡_ {A = ℕ} 0 1 = cc in omega arith
+    w : List Float
+    w = windowSeconds (i .instants) (windowStart (i .instants) t)
+
+    go : (v : Outcome Matrix) → inversionOf (i .tolerance) w ≡ v → evaluated (modelOr v w (i .positions) (windowStart (i .instants) t)) t ≡ refused n → n ≡ 8
+    go (refused k) p e = let z : k ≡ n = cc in sym z ∙ inversion-eight (i .tolerance) w k p
+    go (answered v) p e = let z : _≡_ {A = ℕ} 0 1 = cc in absurd (omega arith)
+
+-- the centre, by the laws of the two searches
+centre-is : (i : Inputs) (S : List Sample) → CentreIs i S
+centre-is i S = record {
+  difference = refl;
+  first-fall = λ j f. let r = first-approach ts fs (λ e. nine-exactly ts fs .0 e j f) in (r .0, r .1, ap (approachOr (middleOf ts)) (r .2), r .3);
+  else-middle = λ none. ap (approachOr (middleOf ts)) (nine-exactly ts fs .1 none);
+  by-minutes = first-minute (i .tolerance) (i .instants) (i .positions) (i .observer) (measuredFor S);
+  by-seconds = first-second (i .tolerance) (i .instants) (i .positions) (i .observer) (measuredFor S);
+  predicted = refl;
+}
+  where
+    ts : List ℤ
+    ts = instants (means S)
+
+    fs : List Float
+    fs = frequencies (means S)
 
 -- usable, in the document's words
 usable-is : (i : Inputs) (S : List Sample) → Usable i S
@@ -170,7 +237,7 @@ usable-is i S = record {
       let e = left-many i x (means S) in
       let small = lt (rmseFor i S x) largestFinite in (
         λ u. (omega (arith, ltb→lt n m (and-l (ltb n m) small u)), and-r (ltb n m) small u),
-        λ u. and-both (ltb n m) small (lt→ltb n m (omega (arith, u .0))) (u .1),
+        λ u. and-i (ltb n m) small (lt→ltb n m (omega (arith, u .0))) (u .1),
       );
   rmse-is = λ x. refl;
   else-8 = λ x m. refused-by-8 i (moved (m .instant) x);
@@ -233,6 +300,7 @@ demand-3 i S = record {
   listed = record { rises = rising S; only-held = λ s. held s S; all-held = λ s. listed s S; no-other = seconds-are S };
   own = record { in-order = refl; own-second = own-seconds S; rise = means-rise S };
   count = count-means S;
+  centre = centre-is i S;
   usable = usable-is i S;
   shifts = shifts-are i S;
   refusal = refused-exactly (tried i S) (length (means S)) (centreFor i S);
@@ -262,18 +330,6 @@ few-recorded [] fs = omega arith
 few-recorded (t ∷ ts) [] = omega arith
 few-recorded (t ∷ ts) (f ∷ fs) = let r = few-recorded ts fs in omega arith
 
--- checks 1 to 7 have no other numbers
-up-to-seven : (c₁ c₂ c₃ c₄ c₅ c₆ c₇ : Bool) → firstFailing (check 1 c₁ ∷ check 2 c₂ ∷ check 3 c₃ ∷ check 4 c₄ ∷ check 5 c₅ ∷ check 6 c₆ ∷ check 7 c₇ ∷ []) ≤ 7
-unfolding firstFailing
-up-to-seven true c₂ c₃ c₄ c₅ c₆ c₇ = omega arith
-up-to-seven false true c₃ c₄ c₅ c₆ c₇ = omega arith
-up-to-seven false false true c₄ c₅ c₆ c₇ = omega arith
-up-to-seven false false false true c₅ c₆ c₇ = omega arith
-up-to-seven false false false false true c₆ c₇ = omega arith
-up-to-seven false false false false false true c₇ = omega arith
-up-to-seven false false false false false false true = omega arith
-up-to-seven false false false false false false false = omega arith
-
 module _ (i : Inputs) (ts : List ℤ) (fs : List Float) (a : List ℤ) (b : List Float) where
   -- a call that passes checks 1 to 7 answers its recording's outcome, with its means at the front of the areas
   pub one-call : passRefusal i ts fs a b ≡ 0 → Call i ts fs a b (means (recording ts fs))
@@ -292,13 +348,13 @@ module _ (i : Inputs) (ts : List ℤ) (fs : List Float) (a : List ℤ) (b : List
   -- a call answers 10 exactly when it passes checks 1 to 7 and no coarse shift is usable
   pub ten-exactly : (passReport i ts fs a b ≡ refused 10) ↔ ((passRefusal i ts fs a b ≡ 0) × NoCoarse (tried i (recording ts fs)) (centreFor i (recording ts fs)))
   ten-exactly = (
-    λ e. let r = go (passRefusal i ts fs a b) (up-to-seven _ _ _ _ _ _ _) e in (r .0, demand-3 i (recording ts fs) .refusal .0 (r .1)),
+    λ e. let r = go (passRefusal i ts fs a b) (pass-never-ten (i .instants) (i .positions) ts fs (i .observer .x .0) (i .observer .y .0) (i .observer .z .0) (i .f0) a b) e in (r .0, demand-3 i (recording ts fs) .refusal .0 (r .1)),
     λ h. one-call (h .0) .outcome-is ∙ demand-3 i (recording ts fs) .refusal .1 (h .1),
   )
     where
-      go : (k : ℕ) → k ≤ 7 → unlessRefused k (passOutcome i (recording ts fs)) ≡ refused 10 → (k ≡ 0) × (passOutcome i (recording ts fs) ≡ refused 10)
-      go zero h e = (refl, e)
-      go (suc k) h e = let z : suc k ≡ 10 = cc in absurd (omega arith)
+      go : (k : ℕ) → (k ≡ 10 → ⊥) → unlessRefused k (passOutcome i (recording ts fs)) ≡ refused 10 → (k ≡ 0) × (passOutcome i (recording ts fs) ≡ refused 10)
+      go zero never e = (refl, e)
+      go (suc k) never e = absurd (never (cc))
 
 -- two calls with the same other inputs, whose recordings are alike in the samples of each whole second and their order there; nothing relates their areas, nor the order across the seconds
 pub record TwoCalls (i : Inputs) (ts : List ℤ) (fs : List Float) (a : List ℤ) (b : List Float) (ts′ : List ℤ) (fs′ : List Float) (a′ : List ℤ) (b′ : List Float) : Type 0 where

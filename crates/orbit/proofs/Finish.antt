@@ -9,16 +9,17 @@ use lib.IntN.{ℤ}
 use lib.ListN.{length}
 use lib.Ieee.{Float, binary64, sub, lt}
 use Rattle.float.specs.Signs.{Within, magnitudeOf}
+use Rattle.common.specs.Search.{firstBest}
 use Rattle.float.proofs.Bounds.{sub-within}
-use Rattle.checks.specs.Outcome.{refused, answered}
-use Rattle.float.specs.Numbers.{nought, largestFinite}
+use Rattle.common.specs.Outcome.{refused, answered}
+use Rattle.common.specs.Numbers.{nought, largestFinite}
 use Rattle.orbit.specs.declared.stages.LeastSoFar.{LeastSoFar}
 use Rattle.orbit.specs.Fitting.{Fitting}
-use Rattle.orbit.specs.Fit.{Trial, Best, noneYet, found, search, firstLeast, five, fifteen, tenth, twentieth, thousandth, hundredThousandth, shiftAt, shiftsFrom, around, coarse, fine, micro, report, reportOf, fitBy}
+use Rattle.orbit.specs.Fit.{Trial, Best, noneYet, found, firstLeast, five, fifteen, tenth, twentieth, thousandth, hundredThousandth, shiftAt, shiftsFrom, around, coarse, fine, micro, reportOf, fitBy}
 use Rattle.orbit.specs.Stages.{stateOf, state, updates, stageFrom, reportFrom, finished}
 use Rattle.orbit.proofs.Shifts.{weaken, stage-within}
-use Rattle.orbit.proofs.Updates.{state-search, updates-append, Below, below-search, updates-within}
-use Rattle.orbit.proofs.FirstLeast.{still-found}
+use Rattle.orbit.proofs.Updates.{state-search, updates-append, Below, below-least, updates-within}
+use Rattle.orbit.proofs.FirstLeast.{leastFrom, still-found}
 use Rattle.orbit.proofs.ListOfShifts.{stageAfter, fit-by-stages}
 
 -- a stage's start: a little before a shift
@@ -41,25 +42,25 @@ micro-from try s = refl
 module _ (try : Float → Trial) where
   -- what was found: a further stage from it
   found-stage : (f : Float → List Float) (t : Trial) → state (stageAfter try f (found t)) ≡ stageFrom try f (stateOf t)
-  found-stage f t = sym (state-search (found t) (map try (f (t .shift))))
+  found-stage f t = sym (state-search try (found t) (f (t .shift)))
 
-  found-report : (n : ℕ) (t : Trial) (ts : List Trial) → reportOf n (search (found t) ts) ≡ answered (reportFrom n (state (search (found t) ts)))
-  found-report n t ts = let r = still-found t ts in go (search (found t) ts) (r .0) (r .1)
+  found-report : (n : ℕ) (t : Trial) (L : List Float) → reportOf n (leastFrom try (found t) L) ≡ answered (reportFrom n (state (leastFrom try (found t) L)))
+  found-report n t L = let r = still-found try t L in go (leastFrom try (found t) L) (r .0) (r .1)
     where
       go : (b : Best) (u : Trial) → b ≡ found u → reportOf n b ≡ answered (reportFrom n (state b))
       go b u e = rw e refl
 
   both-stages : (n : ℕ) (t : Trial) → reportOf n (stageAfter try micro (stageAfter try fine (found t))) ≡ answered (reportFrom n (stageFrom try micro (stageFrom try fine (stateOf t))))
-  both-stages n t = let r = still-found t (map try (fine (t .shift))) in go (stageAfter try fine (found t)) (r .0) (r .1) (found-stage fine t)
+  both-stages n t = let r = still-found try t (fine (t .shift)) in go (stageAfter try fine (found t)) (r .0) (r .1) (found-stage fine t)
     where
       go : (b : Best) (u : Trial) → b ≡ found u → state b ≡ stageFrom try fine (stateOf t) → reportOf n (stageAfter try micro b) ≡ answered (reportFrom n (stageFrom try micro (stageFrom try fine (stateOf t))))
       go b u e s =
           ap (λ (x : Best). reportOf n (stageAfter try micro x)) e
-          ∙ found-report n u (map try (micro (u .shift)))
+          ∙ found-report n u (micro (u .shift))
           ∙ ap (λ (x : LeastSoFar). answered (reportFrom n x)) (found-stage micro u ∙ ap (stageFrom try micro) (sym (ap state e) ∙ s))
 
   finish-is : (n : ℕ) (b : Best) → Below b → reportOf n (stageAfter try micro (stageAfter try fine b)) ≡ finished try n (state b)
-  unfolding lt search
+  unfolding lt firstBest
   finish-is n noneYet h = refl
   finish-is n (found t) h = both-stages n t ∙ go (lt (t .rmse) largestFinite) h
     where
@@ -70,8 +71,8 @@ module _ (try : Float → Trial) where
   -- the fit, from the three doubles after the coarse stage
   pub fit-is : (n : ℕ) (centre : Float) → finished try n (updates (state noneYet) (map try (coarse centre))) ≡ fitBy try n centre
   fit-is n centre =
-      ap (finished try n) (state-search noneYet (map try (coarse centre)))
-      ∙ sym (finish-is n (firstLeast try (coarse centre)) (below-search noneYet (map try (coarse centre)) tt))
+      ap (finished try n) (state-search try noneYet (coarse centre))
+      ∙ sym (finish-is n (firstLeast try (coarse centre)) (below-least try (coarse centre)))
       ∙ sym (fit-by-stages try n centre)
 
   -- ---- the coarse stage, about one centre and about two

@@ -1,7 +1,8 @@
 -- What the proofs of orbit share, and the laws and theorems that a reader cites (`pub`).
 mod Searches
-mod Models
+pub mod Models
 mod Offsets
+pub mod FirstRange
 mod Ranges
 mod Totals
 mod Shifts

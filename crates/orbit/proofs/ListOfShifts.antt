@@ -3,16 +3,16 @@
 use mathlib.Core.Path.{_≡_, refl, sym, _∙_, ap, subst}
 use mathlib.Core.Logic.{_≢_}
 use mathlib.Core.Bool.{Bool, true, false, cond}
-use mathlib.Core.List.{List, [], _++_, map, append-nil}
+use mathlib.Core.List.{List, [], _++_, append-nil}
 use Prim.Native.Nat.{ℕ, zero, suc, _+_, _<_}
 use native.Mathlib.Omega.{arith}
 use lib.IntN.{pos}
 use lib.ListN.{length, getD, length-append}
 use lib.Ieee.{Float, nan, fin, binary64, sub, lt}
 use Rattle.float.specs.Signs.{magnitudeOf}
-use Rattle.float.specs.Numbers.{nought}
-use Rattle.orbit.specs.Fit.{Trial, Best, noneYet, found, search, firstLeast, five, fifteen, tenth, twentieth, thousandth, hundredThousandth, shiftAt, shiftsFrom, around, coarse, fine, micro, further, coarseFine, shifts, reportOf, fitBy}
-use Rattle.orbit.proofs.FirstLeast.{Wins, After, place, first-least, none-found, next-stage, still-found, NoCoarse}
+use Rattle.common.specs.Numbers.{nought}
+use Rattle.orbit.specs.Fit.{Trial, Best, noneYet, found, firstLeast, five, fifteen, tenth, twentieth, thousandth, hundredThousandth, shiftAt, shiftsFrom, around, coarse, fine, micro, further, coarseFine, shifts, reportOf, fitBy}
+use Rattle.orbit.proofs.FirstLeast.{Wins, After, place, first-least, none-found, leastFrom, next-stage, still-found, NoCoarse}
 
 -- ---- a stage
 
@@ -84,7 +84,7 @@ centre-six = coarse-length (fin false 3 (pos 1))
 
 -- a further stage, searched from the best of those before
 abbrev pub stageAfter : (Float → Trial) → (Float → List Float) → Best → Best
-stageAfter try f b = search b (map try (further f b))
+stageAfter try f b = leastFrom try b (further f b)
 
 -- the fit is the three stages run one after the other, each from the best of those before
 pub fit-by-stages : (try : Float → Trial) (n : ℕ) (centre : Float) → fitBy try n centre ≡ reportOf n (stageAfter try micro (stageAfter try fine (firstLeast try (coarse centre))))
@@ -130,12 +130,12 @@ module _ (try : Float → Trial) (named : (x : Float) → try x .shift ≡ x) wh
       some : firstLeast try (coarse centre) ≢ noneYet
       some e = h (subst (After (place try (coarse centre)) (length (coarse centre))) e (first-least try (coarse centre)))
 
-      kept : (b : Best) → b ≢ noneYet → (ts : List Trial) → search b ts ≢ noneYet
-      kept noneYet n ts e = n refl
-      kept (found t) n ts e = let r = still-found t ts in let z : _≡_ {A = ℕ} 0 1 = cc (r .1) in omega arith
+      kept : (b : Best) → b ≢ noneYet → (L : List Float) → leastFrom try b L ≢ noneYet
+      kept noneYet n L e = n refl
+      kept (found t) n L e = let r = still-found try t L in let z : _≡_ {A = ℕ} 0 1 = cc (r .1) in omega arith
 
       then : firstLeast try (coarseFine try centre) ≢ noneYet
-      then e = kept (firstLeast try (coarse centre)) some (map try (further fine (firstLeast try (coarse centre)))) (sym (next-stage try (coarse centre) (further fine (firstLeast try (coarse centre)))) ∙ e)
+      then e = kept (firstLeast try (coarse centre)) some (further fine (firstLeast try (coarse centre))) (sym (next-stage try (coarse centre) (further fine (firstLeast try (coarse centre)))) ∙ e)
 
   -- 101 fine and 201 micro shifts after the coarse ones
   pub listing-length : (centre : Float) → (NoCoarse try centre → ⊥) → length (shifts try centre) ≡ length (coarse centre) + 302

@@ -1,21 +1,21 @@
 -- The measured approach of samples, or else their middle, is one of their instants; the means of a recording are samples that pass their checks. Assumes nothing.
 use mathlib.Core.Path.{_≡_, refl, sym, ap, ap₂, _∙_, subst}
 use mathlib.Core.Bool.{Bool, true, false, cond}
-use mathlib.Core.List.{List, [], _∷_, map}
+use mathlib.Core.List.{List, [], _∷_}
 use Prim.Native.Nat.{ℕ, _/_, _≤_}
 use native.Mathlib.Omega.{arith}
 use lib.IntN.{ℤ, pos, natAbs}
 use lib.ListN.{length, getD, take, drop, length-map}
 use lib.Seq.{take-append-seam}
 use lib.Ieee.{Float, lt}
-use Rattle.checks.specs.Outcome.{Outcome, refused, answered, written}
+use Rattle.common.specs.Outcome.{Outcome, refused, answered, written}
 use Rattle.samples.specs.Means.{Sample, recording, means, instants, frequencies}
 use Rattle.samples.specs.Approach.{noFloor, leastSlope}
 use Rattle.samples.proofs.Seconds.{some-means, few-means}
 use Rattle.samples.proofs.OwnSeconds.{Limited, limited-means}
 use Rattle.samples.proofs.Recordings.{record-length, record-instants}
 use Rattle.checks.specs.Passed.{Samples}
-use Rattle.float.specs.Numbers.{nought}
+use Rattle.common.specs.Numbers.{nought}
 use Rattle.orbit.specs.Passes.{approachOr, middleOf, measuredBy}
 
 pub measured-near : (ts : List ℤ) (fs : List Float) → ((k : ℕ) → natAbs (getD ts k (pos 0)) ≤ 4000000000000000000) → natAbs (measuredBy ts fs) ≤ 4000000000000000000

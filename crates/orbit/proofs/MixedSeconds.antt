@@ -9,10 +9,10 @@ use lib.IntN.{ℤ, pos, negsuc, pos-ne-negsuc}
 use lib.ListN.{length, getD, drop, replicate}
 use lib.Ieee.{Float, nan, fin, ofInt, lt, le}
 use Rattle.float.specs.Signs.{magnitudeOf}
-use Rattle.checks.specs.Checks.{any, unrising, anyMisplaced, infinite}
+use Rattle.checks.specs.Checks.{any, unrising, anyMisplaced, notFinite}
 use Rattle.checks.specs.Entries.{firstFailing}
 use Rattle.samples.specs.Means.{Sample, recording, bin, means, instants, Alike}
-use Rattle.float.specs.Numbers.{nought}
+use Rattle.common.specs.Numbers.{nought}
 use Rattle.orbit.specs.Window.{evenTolerance}
 use Rattle.orbit.specs.Residuals.{Inputs}
 use Rattle.orbit.specs.Passes.{passRefusal, passInstants}
@@ -73,11 +73,11 @@ others = record {
 
 -- the first call's areas have room for the five samples and hold zeros; the second's are longer and hold other things
 pub mixed-passes : passRefusal others mixedInstants mixedFrequencies (replicate 5 (pos 0)) (replicate 5 nought) ≡ 0
-unfolding firstFailing any unrising anyMisplaced infinite magnitudeOf lt le
+unfolding firstFailing any unrising anyMisplaced notFinite magnitudeOf lt le
 mixed-passes = refl
 
 pub sorted-passes : passRefusal others sortedInstants sortedFrequencies (replicate 8 (negsuc 6)) (replicate 6 nan) ≡ 0
-unfolding firstFailing any unrising anyMisplaced infinite magnitudeOf lt le
+unfolding firstFailing any unrising anyMisplaced notFinite magnitudeOf lt le
 sorted-passes = refl
 
 -- so the two calls give the same

@@ -3,18 +3,20 @@
 use mathlib.Core.Path.{_≡_, sym, ap, _∙_}
 use mathlib.Core.Bool.{Bool, true, false, cond}
 use mathlib.Core.List.{List}
-use Prim.Native.Nat.{ℕ, suc, _+_, _-_, _≤_, _<_}
+use Prim.Native.Nat.{ℕ, zero, suc, _+_, _-_, _≤_, _<_}
 use native.Mathlib.Omega.{arith}
 use lib.ListN.{getD}
 use lib.Ieee.{Float, nan}
 use lib.IntN.{ℤ}
-use Rattle.chebyshev.specs.Inverse.{Row, inverted, rowsOf, refusalOf, singular, inverse}
-use Rattle.chebyshev.specs.Inverse.{Outcome as Inversion}
+use Rattle.chebyshev.specs.Inverse.{Row, Matrix, inverted, rowsOf, singularRefusal}
 use Rattle.chebyshev.specs.Ideal.{idealMatrix}
-use Rattle.checks.specs.Outcome.{refused, answered}
+use Rattle.chebyshev.specs.Coefficients.{coefficientsAnswer}
+use Rattle.chebyshev.specs.declared.coefficients.Coefficients.{Coefficients}
+use Rattle.chebyshev.proofs.Columns.{inverted-told, inverted-eight}
+use Rattle.common.specs.Outcome.{Outcome, refused, answered, refusalIn, Told}
 use Rattle.orbit.specs.Propagation.{motionAt, evaluated}
 use Rattle.orbit.specs.declared.window.Model.{Model}
-use Rattle.orbit.specs.Window.{wideGap, wideFrom, uneven, windowSeconds, nodeMatrix, coefficients, inversionOf, modelOr, modelAt, blankModel, modelAnswer}
+use Rattle.orbit.specs.Window.{wideGap, wideFrom, uneven, windowSeconds, nodeMatrix, axisOf, coefficients, inversionOf, modelOr, modelAt, blankModel, modelAnswer}
 
 pub wide-found : (tolerance : Float) (t : List Float) (k : ℕ) → k < 9 → wideGap tolerance t k ≡ true → wideFrom (9 - k) k tolerance t ≡ true
 unfolding wideFrom
@@ -40,21 +42,31 @@ abbrev pub made : List Float → Row → Row → Row → Model
 made t x y z = record { refusal = 0; orbit = record { t0 = record { 0 = getD t 0 nan }; t9 = record { 0 = getD t 9 nan }; cx = x; cy = y; cz = z } }
 
 -- an inversion that is not refused gives the model by its rows
-pub made-is : (o : Inversion) (t positions : List Float) (start : ℕ) (x y z : Row) → refusalOf o ≡ 0
+pub made-is : (o : Outcome Matrix) (t positions : List Float) (start : ℕ) (x y z : Row) → Told o → refusalIn o ≡ 0
     → x ≡ coefficients (rowsOf o) positions start 0 → y ≡ coefficients (rowsOf o) positions start 1 → z ≡ coefficients (rowsOf o) positions start 2 → made t x y z ≡ modelAnswer (modelOr o t positions start)
-made-is singular t positions start x y z h ex ey ez = absurd (eight h)
-  where
-    eight : _≡_ {A = ℕ} 8 0 → ⊥
-    eight h = omega arith
-made-is (inverse v) t positions start x y z h ex ey ez = rw (ex, ey, ez)
+made-is (refused zero) t positions start x y z told h ex ey ez = absurd told
+made-is (refused (suc n)) t positions start x y z told h ex ey ez = absurd (omega (arith, h))
+made-is (answered v) t positions start x y z told h ex ey ez = rw (ex, ey, ez)
 
--- a refused one gives its number and zeros
-pub refused-is : (o : Inversion) (t positions : List Float) (start n : ℕ) → n ≡ refusalOf o → (n ≡ 0 → ⊥) → _≡_ {A = Model} (record { refusal = n; orbit = blankModel }) (modelAnswer (modelOr o t positions start))
-refused-is singular t positions start n e h = ap blank e
+-- the coefficients of a window's three axes by an inversion
+abbrev pub through : Outcome Matrix → List Float → ℕ → Coefficients
+through o positions start = coefficientsAnswer o (axisOf positions start 0) (axisOf positions start 1) (axisOf positions start 2)
+
+-- refused coefficients give the model's refusal, their number beside zeros
+pub refused-is : (o : Outcome Matrix) (t positions : List Float) (start : ℕ) (c : Coefficients) → c ≡ through o positions start → (c .refusal ≡ 0 → ⊥)
+    → _≡_ {A = Model} (record { refusal = c .refusal; orbit = blankModel }) (modelAnswer (modelOr o t positions start))
+refused-is (refused n) t positions start c e h = ap blank e
   where
-    blank : ℕ → Model
-    blank n = record { refusal = n; orbit = blankModel }
-refused-is (inverse v) t positions start n e h = absurd (h e)
+    blank : Coefficients → Model
+    blank c = record { refusal = c .refusal; orbit = blankModel }
+refused-is (answered v) t positions start c e h = absurd (h (ap (λ (x : Coefficients). x .refusal) e))
+
+-- any others give the model
+pub through-is : (o : Outcome Matrix) (t positions : List Float) (start : ℕ) (c : Coefficients) → Told o → c ≡ through o positions start → c .refusal ≡ 0
+    → made t (c .cx) (c .cy) (c .cz) ≡ modelAnswer (modelOr o t positions start)
+through-is (refused zero) t positions start c told e h = absurd told
+through-is (refused (suc n)) t positions start c told e h = let z : suc n ≡ 0 = sym (ap (λ (x : Coefficients). x .refusal) e) ∙ h in absurd (omega arith)
+through-is (answered v) t positions start c told e h = ap (λ (x : Coefficients). made t (x .cx) (x .cy) (x .cz)) e
 
 -- by the window's evenness
 pub model-uneven : (tolerance : Float) (instants : List ℤ) (positions t : List Float) (start : ℕ) → t ≡ windowSeconds instants start → uneven tolerance t ≡ true
@@ -67,15 +79,20 @@ model-even tolerance instants positions t start e u = ap (λ (b : Bool). modelOr
 
 -- ---- an instant by the model of its window
 
-pub propagation-refused : (o : Inversion) (t positions : List Float) (start : ℕ) (instant : ℤ) (m : Model) → m ≡ modelAnswer (modelOr o t positions start) → (m .refusal ≡ 0 → ⊥)
-    → refused (m .refusal) ≡ evaluated (modelOr o t positions start) instant
-propagation-refused singular t positions start instant m e h = ap (λ (x : Model). refused (x .refusal)) e
-propagation-refused (inverse v) t positions start instant m e h = absurd (h (ap (λ (x : Model). x .refusal) e))
+-- whichever nodes are inverted
+pub inversion-told : (tolerance : Float) (t : List Float) → Told (inversionOf tolerance t)
+inversion-told tolerance t = inverted-told (cond (uneven tolerance t) (nodeMatrix t) idealMatrix)
 
-pub propagation-answered : (o : Inversion) (t positions : List Float) (start : ℕ) (instant : ℤ) (m : Model) → m ≡ modelAnswer (modelOr o t positions start) → m .refusal ≡ 0
+pub inversion-eight : (tolerance : Float) (t : List Float) (k : ℕ) → inversionOf tolerance t ≡ refused k → k ≡ singularRefusal
+inversion-eight tolerance t k e = inverted-eight (cond (uneven tolerance t) (nodeMatrix t) idealMatrix) k e
+
+pub propagation-refused : (o : Outcome Matrix) (t positions : List Float) (start : ℕ) (instant : ℤ) (m : Model) → m ≡ modelAnswer (modelOr o t positions start) → (m .refusal ≡ 0 → ⊥)
+    → refused (m .refusal) ≡ evaluated (modelOr o t positions start) instant
+propagation-refused (refused n) t positions start instant m e h = ap (λ (x : Model). refused (x .refusal)) e
+propagation-refused (answered v) t positions start instant m e h = absurd (h (ap (λ (x : Model). x .refusal) e))
+
+pub propagation-answered : (o : Outcome Matrix) (t positions : List Float) (start : ℕ) (instant : ℤ) (m : Model) → Told o → m ≡ modelAnswer (modelOr o t positions start) → m .refusal ≡ 0
     → answered (motionAt (m .orbit) instant) ≡ evaluated (modelOr o t positions start) instant
-propagation-answered singular t positions start instant m e h = absurd (eight (sym (ap (λ (x : Model). x .refusal) e) ∙ h))
-  where
-    eight : _≡_ {A = ℕ} 8 0 → ⊥
-    eight h = omega arith
-propagation-answered (inverse v) t positions start instant m e h = ap (λ (x : Model). answered (motionAt (x .orbit) instant)) e
+propagation-answered (refused zero) t positions start instant m told e h = absurd told
+propagation-answered (refused (suc n)) t positions start instant m told e h = let z : suc n ≡ 0 = sym (ap (λ (x : Model). x .refusal) e) ∙ h in absurd (omega arith)
+propagation-answered (answered v) t positions start instant m told e h = ap (λ (x : Model). answered (motionAt (x .orbit) instant)) e

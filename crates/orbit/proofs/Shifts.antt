@@ -4,7 +4,7 @@ use native.Mathlib.Omega.{arith}
 use native.Mathlib.Nat.{le-trans, mul-le-mul-right}
 use lib.IntN.{ℤ, pos, natAbs, _-ℤ_, _*ℤ_}
 use lib.Signed.{mag}
-use lib.Ieee.{Float, nan, inf, fin, down, binary64, add, mul}
+use lib.Ieee.{Float, nan, inf, fin, down, binary64, mul}
 use mir.Syntax.{w64}
 use mir.Val.{SFits}
 use Rattle.float.specs.Signs.{Within}

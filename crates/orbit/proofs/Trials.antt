@@ -16,7 +16,7 @@ use Rattle.samples.specs.Means.{Sample}
 use Rattle.orbit.specs.declared.stages.LeastSoFar.{LeastSoFar}
 use Rattle.orbit.specs.Fit.{trial}
 use Rattle.orbit.specs.Residuals.{Residual, residuals, total, meanOver, deviation}
-use Rattle.float.specs.Numbers.{minusZero}
+use Rattle.common.specs.Numbers.{minusZero}
 use Rattle.orbit.specs.Stages.{stateOf, update}
 
 -- the mean of the first n values, from their sum

@@ -5,13 +5,16 @@ use mathlib.Core.List.{List, [], _∷_, _++_, map}
 use Prim.Native.Nat.{ℕ, zero, suc, _+_, _-_, _≤_, _<_}
 use native.Mathlib.Omega.{arith}
 use lib.Dec.{T}
+use lib.ListN.{length}
 use lib.Ieee.{Float, lt}
+use lib.Ieee.Fits.{and-r}
 use Rattle.float.specs.Signs.{Within}
-use Rattle.float.proofs.Comparison.{lt-trans}
+use Rattle.common.specs.Search.{betterOf, firstBest}
 use Rattle.orbit.specs.declared.stages.LeastSoFar.{LeastSoFar}
-use Rattle.float.specs.Numbers.{largestFinite}
-use Rattle.orbit.specs.Fit.{Trial, Best, noneYet, found, later, search, shiftAt, shiftsFrom}
+use Rattle.common.specs.Numbers.{largestFinite}
+use Rattle.orbit.specs.Fit.{Trial, Best, noneYet, found, smaller, firstLeast, shiftAt, shiftsFrom}
 use Rattle.orbit.specs.Stages.{stateOf, state, update, updates}
+use Rattle.orbit.proofs.FirstLeast.{After, place, first-least, leastFrom}
 
 module _ (try : Float → Trial) where
   pub stage-step : (n k : ℕ) (start increment : Float) (s : LeastSoFar) → k < n
@@ -29,22 +32,22 @@ module _ (try : Float → Trial) where
 
 -- ---- the three doubles are the search's best
 
-state-later : (b : Best) (t : Trial) → state (later b t) ≡ update (state b) t
-state-later noneYet t = go (t .enough && lt (t .rmse) largestFinite)
+state-better : (b : Best) (t : Trial) → state (betterOf smaller b (found t)) ≡ update (state b) t
+state-better noneYet t = go (t .enough && lt (t .rmse) largestFinite)
   where
     go : (v : Bool) → state (cond v (found t) noneYet) ≡ cond v (stateOf t) (state noneYet)
     go true = refl
     go false = refl
-state-later (found u) t = go (t .enough && lt (t .rmse) (u .rmse))
+state-better (found u) t = go (t .enough && lt (t .rmse) (u .rmse))
   where
     go : (v : Bool) → state (cond v (found t) (found u)) ≡ cond v (stateOf t) (state (found u))
     go true = refl
     go false = refl
 
-pub state-search : (b : Best) (ts : List Trial) → updates (state b) ts ≡ state (search b ts)
-unfolding updates search
-state-search b [] = refl
-state-search b (t ∷ ts) = ap (λ (s : LeastSoFar). updates s ts) (sym (state-later b t)) ∙ state-search (later b t) ts
+pub state-search : (try : Float → Trial) (b : Best) (L : List Float) → updates (state b) (map try L) ≡ state (leastFrom try b L)
+unfolding updates firstBest
+state-search try b [] = refl
+state-search try b (x ∷ L) = ap (λ (s : LeastSoFar). updates s (map try L)) (sym (state-better b (try x))) ∙ state-search try (betterOf smaller b (found (try x))) L
 
 pub updates-append : (s : LeastSoFar) (ts us : List Trial) → updates s (ts ++ us) ≡ updates (updates s ts) us
 unfolding updates
@@ -56,24 +59,12 @@ abbrev pub Below : Best → Type 0
 Below noneYet = Unit {0}
 Below (found t) = T (lt (t .rmse) largestFinite)
 
-below-later : (b : Best) (t : Trial) → Below b → Below (later b t)
-below-later noneYet t h = go (t .enough) (lt (t .rmse) largestFinite) (λ u. u)
+pub below-least : (try : Float → Trial) (L : List Float) → Below (firstLeast try L)
+below-least try L = go (firstLeast try L) (first-least try L)
   where
-    go : (v w : Bool) → (T w → T (lt (t .rmse) largestFinite)) → Below (cond (v && w) (found t) noneYet)
-    go true true f = f tt
-    go true false f = tt
-    go false w f = tt
-below-later (found u) t h = go (t .enough) (lt (t .rmse) (u .rmse)) (λ k. k)
-  where
-    go : (v w : Bool) → (T w → T (lt (t .rmse) (u .rmse))) → Below (cond (v && w) (found t) (found u))
-    go true true f = lt-trans (t .rmse) (u .rmse) largestFinite (f tt) h
-    go true false f = h
-    go false w f = h
-
-pub below-search : (b : Best) (ts : List Trial) → Below b → Below (search b ts)
-unfolding search
-below-search b [] h = h
-below-search b (t ∷ ts) h = below-search (later b t) ts (below-later b t h)
+    go : (b : Best) → After (place try L) (length L) b → Below b
+    go noneYet a = tt
+    go (found t) a = subst (λ (x : Trial). T (lt (x .rmse) largestFinite)) (sym (a .1)) (and-r (place try L (a .0) .enough) (lt (place try L (a .0) .rmse) largestFinite) (a .2 .can-be-used))
 
 -- the shift that is kept is the start's or one of those tried
 updated-within : (n : ℕ) (s : LeastSoFar) (t : Trial) → Within n (s .shift) → Within n (t .shift) → Within n (update s t .shift)

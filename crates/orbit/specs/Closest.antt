@@ -1,13 +1,16 @@
 -- `find_pca_time`: the least squared range by minutes, then by seconds. Offsets are whole seconds, the instants nanoseconds.
-use Prim.Native.Nat.{ℕ, zero, suc, _+_, _*_}
-use mathlib.Core.Bool.{cond}
+use Prim.Native.Nat.{ℕ, _*_}
+use mathlib.Core.Bool.{Bool}
 use mathlib.Core.List.{List}
 use lib.IntN.{ℤ, pos, negℤ, _+ℤ_, _*ℤ_}
-use lib.Ieee.{Float, binary64, add, sub, mul, lt}
-use Rattle.float.specs.Numbers.{largestFinite}
+use lib.Ieee.{Float, nan, lt}
+use Rattle.common.specs.Rounded.{_⊕_, _⊖_, _⊗_}
+use Rattle.common.specs.Numbers.{largestFinite}
+use Rattle.common.specs.Lists.{listOf}
+use Rattle.common.specs.Search.{firstBest}
 use Rattle.units.specs.declared.Position.{Position}
 use Rattle.units.specs.declared.Observer.{Observer}
-use Rattle.checks.specs.Outcome.{Outcome, refused, answered, outcome}
+use Rattle.common.specs.Outcome.{Outcome, refused, answered, outcome}
 use Rattle.checks.specs.Entries.{firstFailing, closestChecks}
 use Rattle.samples.specs.Means.{second}
 use Rattle.orbit.specs.declared.closest.Nearest.{Nearest}
@@ -18,21 +21,28 @@ use Rattle.orbit.specs.Propagation.{Motion, propagated}
 
 -- a number times itself
 abbrev pub squared : Float → Float
-squared r = mul binary64 r r
+squared r = r ⊗ r
 
 -- the squared distance from the observer, in square metres: (rx·rx + ry·ry) + rz·rz, each operation rounded once
 abbrev pub squaredRange : Observer → Position → Float
-squaredRange o p =
-    add binary64 (add binary64 (squared (sub binary64 (p .x) (o .x .0))) (squared (sub binary64 (p .y) (o .y .0)))) (squared (sub binary64 (p .z) (o .z .0)))
+squaredRange o p = squared (p .x ⊖ o .x .0) ⊕ squared (p .y ⊖ o .y .0) ⊕ squared (p .z ⊖ o .z .0)
 
 -- an instant moved by whole seconds
 abbrev pub movedBySeconds : ℤ → ℤ → ℤ
 movedBySeconds t offset = t +ℤ offset *ℤ pos second
 
--- "first of equals": a later offset wins only by a smaller squared range; an instant without a position is passed over
-abbrev pub nearer : Observer → Outcome Motion → ℤ → Nearest → Nearest
-nearer o (refused n) offset best = best
-nearer o (answered m) offset best = let r = squaredRange o (m .position) in cond (lt r (best .range)) (record { range = r; offset = offset }) best
+-- the squared range that a propagation answers; an instant without a position has none: NaN, which is below nothing
+abbrev pub rangeIn : Observer → Outcome Motion → Float
+rangeIn o (refused n) = nan
+rangeIn o (answered m) = squaredRange o (m .position)
+
+-- its squared range is below the other's
+abbrev pub nearer : Nearest → Nearest → Bool
+nearer a b = lt (a .range) (b .range)
+
+-- a stage begins with its centre: "only squared ranges below the largest finite double count; a stage without one keeps its centre"
+abbrev pub centred : ℤ → Nearest
+centred offset = record { range = largestFinite; offset = offset }
 
 -- a minute, in seconds
 abbrev pub minute : ℕ
@@ -51,20 +61,21 @@ abbrev pub secondSteps : ℕ
 secondSteps = 121
 
 module _ (tolerance : Float) (instants : List ℤ) (positions : List Float) (o : Observer) (around : ℤ) where
-  -- the first nearest of best and n offsets from the k-th on; the k-th is k steps after the first
-  unfoldable pub seekNearest : ℕ → ℕ → ℤ → ℕ → Nearest → Nearest
-  seekNearest zero k first step best = best
-  seekNearest (suc n) k first step best =
-      let offset = first +ℤ pos (step * k) in
-      seekNearest n (k + 1) first step (nearer o (propagated tolerance instants positions (movedBySeconds around offset)) offset best)
+  -- an offset, and the squared range at the instant moved by it
+  abbrev pub ranged : ℤ → Nearest
+  ranged offset = record { range = rangeIn o (propagated tolerance instants positions (movedBySeconds around offset)); offset = offset }
 
-  -- "over −50 to 50 minutes by minutes"; "only squared ranges below the largest finite double count"; "a stage without one keeps its centre, which at first is the given instant"
+  -- the offset k steps after the first
+  abbrev pub rangedAt : ℤ → ℕ → ℕ → Nearest
+  rangedAt first step k = ranged (first +ℤ pos (step * k))
+
+  -- "Least squared range over −50 to 50 minutes by minutes"; "first of equals"; the centre "at first is the given instant"
   abbrev pub byMinutes : Nearest
-  byMinutes = seekNearest minuteSteps 0 firstMinute minute (record { range = largestFinite; offset = pos 0 })
+  byMinutes = firstBest nearer (centred (pos 0)) (listOf (rangedAt firstMinute minute) minuteSteps 0)
 
   -- "then ±60 s by seconds"
   abbrev pub bySeconds : Nearest
-  bySeconds = let centre = byMinutes .offset in seekNearest secondSteps 0 (centre +ℤ negℤ (pos minute)) 1 (record { range = largestFinite; offset = centre })
+  bySeconds = let centre = byMinutes .offset in firstBest nearer (centred centre) (listOf (rangedAt (centre +ℤ negℤ (pos minute)) 1) secondSteps 0)
 
   -- the instant of the nearest, in nanoseconds
   abbrev pub closestInstant : ℤ

@@ -6,11 +6,13 @@ use lib.Dec.{ltb}
 use lib.IntN.{ℤ, pos, negsuc}
 use lib.ListN.{length}
 use lib.Ieee.{Float, fin, binary64, add, sub, mul, lt}
-use Rattle.float.specs.Numbers.{nought, largestFinite}
+use Rattle.common.specs.Rounded.{_⊕_, _⊖_, _⊗_}
+use Rattle.common.specs.Numbers.{nought, largestFinite}
+use Rattle.common.specs.Search.{firstBest}
 use Rattle.float.specs.Root.{root}
 use Rattle.float.specs.Conversions.{nearestOf}
 use Rattle.float.specs.Signs.{magnitudeOf}
-use Rattle.checks.specs.Outcome.{Outcome, refused, answered, unlessRefused}
+use Rattle.common.specs.Outcome.{Outcome, refused, answered, unlessRefused}
 use Rattle.checks.specs.Entries.{firstFailing, fitChecks}
 use Rattle.samples.specs.Means.{Sample, recording}
 use Rattle.samples.specs.Approach.{gapOf}
@@ -51,18 +53,18 @@ abbrev pub rmseOf : Best → Float
 rmseOf noneYet = largestFinite
 rmseOf (found t) = t .rmse
 
--- "A later candidate wins only by a smaller RMSE"
-abbrev pub later : Best → Trial → Best
-later b t = cond (t .enough && lt (t .rmse) (rmseOf b)) (found t) b
+-- whether enough samples are left; with none there are not
+abbrev pub enoughOf : Best → Bool
+enoughOf noneYet = false
+enoughOf (found t) = t .enough
 
--- trial after trial
-unfoldable pub search : Best → List Trial → Best
-search b [] = b
-search b (t ∷ ts) = search (later b t) ts
+-- "A later candidate wins only by a smaller RMSE": enough samples are left, and its RMSE is below the other's
+abbrev pub smaller : Best → Best → Bool
+smaller a b = enoughOf a && lt (rmseOf a) (rmseOf b)
 
 -- "the earliest of least RMSE among the usable shifts"
 abbrev pub firstLeast : (Float → Trial) → List Float → Best
-firstLeast try L = search noneYet (map try L)
+firstLeast try L = firstBest smaller noneYet (map (λ x. found (try x)) L)
 
 -- ---- the list of the shifts
 
@@ -92,7 +94,7 @@ hundredThousandth = fin false 5902958103587057 (negsuc 68)
 
 -- step n of a stage: start + step × increment
 abbrev pub shiftAt : Float → Float → ℕ → Float
-shiftAt start increment step = add binary64 start (mul binary64 (nearestOf (pos step)) increment)
+shiftAt start increment step = start ⊕ nearestOf (pos step) ⊗ increment
 
 -- n shifts of a stage from step k on, "steps rising"
 unfoldable pub shiftsFrom : ℕ → ℕ → Float → Float → List Float
@@ -103,7 +105,7 @@ shiftsFrom (suc n) k start increment = shiftAt start increment k ∷ shiftsFrom 
 -- "Coarse: centre − 15.0 + step·0.1, steps 0 to 300"
 unfoldable pub around : Float → List Float
 unfolding shiftsFrom sub
-around centre = shiftsFrom 301 0 (sub binary64 centre fifteen) tenth
+around centre = shiftsFrom 301 0 (centre ⊖ fifteen) tenth
 
 -- "a second centre 0.0 if its magnitude is over 5.0"
 unfoldable pub coarse : Float → List Float
@@ -113,12 +115,12 @@ coarse centre = around centre ++ cond (lt five (magnitudeOf centre)) (around nou
 -- "Fine: from the first least so far − 0.05, step·0.001, 0 to 100"
 unfoldable pub fine : Float → List Float
 unfolding shiftsFrom sub
-fine best = shiftsFrom 101 0 (sub binary64 best twentieth) thousandth
+fine best = shiftsFrom 101 0 (best ⊖ twentieth) thousandth
 
 -- "Micro: from the first least so far − 0.001, step·0.00001, 0 to 200"
 unfoldable pub micro : Float → List Float
 unfolding shiftsFrom sub
-micro best = shiftsFrom 201 0 (sub binary64 best thousandth) hundredThousandth
+micro best = shiftsFrom 201 0 (best ⊖ thousandth) hundredThousandth
 
 -- a further stage from the first least of those before: "Without a usable coarse shift there are no fine or micro ones"
 abbrev pub further : (Float → List Float) → Best → List Float
@@ -152,7 +154,7 @@ reportOf n (found t) = answered (report n t)
 
 -- n is the number of samples
 unfoldable pub fitBy : (Float → Trial) → ℕ → Float → Outcome Report
-unfolding shifts search
+unfolding shifts firstBest
 fitBy try n centre = reportOf n (firstLeast try (shifts try centre))
 
 -- "Centre: measured minus predicted, in whole milliseconds over 1000"

@@ -1,10 +1,10 @@
--- The pass entry: "Checks, means, measured approach or else the mean at index count/2, fit on the means".
+-- The pass entry: "Checks, means, measured approach or else the mean at index count/2 ..., fit on the means".
 use Prim.Native.Nat.{ℕ, _/_}
 use mathlib.Core.List.{List}
 use lib.IntN.{ℤ, pos}
 use lib.ListN.{length, getD}
 use lib.Ieee.{Float}
-use Rattle.checks.specs.Outcome.{Outcome, refused, answered, unlessRefused, area}
+use Rattle.common.specs.Outcome.{Outcome, refused, answered, unlessRefused, area}
 use Rattle.checks.specs.Entries.{firstFailing, passChecks}
 use Rattle.samples.specs.Means.{Sample, recording, means, instants, frequencies}
 use Rattle.samples.specs.Approach.{approachOf}

@@ -1,17 +1,18 @@
 -- `evaluate` and `propagate_ecef`: position in metres and velocity in metres for each second at an instant.
 use mathlib.Core.List.{List}
 use lib.IntN.{ℤ}
-use lib.Ieee.{Float, binary64, sub, mul, div}
+use lib.Ieee.{Float}
+use Rattle.common.specs.Rounded.{_⊖_, _⊗_, _⊘_}
 use Rattle.chebyshev.specs.Recurrence.{rounded, valueOf, slopeOf}
 use Rattle.units.specs.declared.Position.{Position}
 use Rattle.units.specs.declared.Velocity.{Velocity}
-use Rattle.checks.specs.Outcome.{Outcome, refused, answered, outcome, unlessRefused}
+use Rattle.common.specs.Outcome.{Outcome, refused, answered, outcome, unlessRefused}
 use Rattle.checks.specs.Entries.{firstFailing, evaluationChecks, propagationChecks}
 use Rattle.orbit.specs.declared.window.ChebyshevOrbit.{ChebyshevOrbit}
 use Rattle.orbit.specs.declared.propagation.Propagation.{Propagation}
 use Rattle.orbit.specs.declared.propagation.Propagation.the-variants.{At, Refused}
 use Rattle.orbit.specs.Window.{secondsOf, tauOf, evenTolerance, modelAbout}
-use Rattle.float.specs.Numbers.{two}
+use Rattle.common.specs.Numbers.{two}
 
 -- where a satellite is and how it moves
 pub record Motion : Type 0 where
@@ -24,7 +25,7 @@ tauAt m t = tauOf (m .t0 .0) (m .t9 .0) (secondsOf t)
 
 -- how fast τ runs, for each second
 abbrev pub tauRate : ChebyshevOrbit → Float
-tauRate m = div binary64 two (sub binary64 (m .t9 .0) (m .t0 .0))
+tauRate m = two ⊘ (m .t9 .0 ⊖ m .t0 .0)
 
 -- "Instants outside the table are extrapolated": any instant has a τ
 abbrev pub positionAt : ChebyshevOrbit → ℤ → Position
@@ -35,9 +36,9 @@ abbrev pub velocityAt : ChebyshevOrbit → ℤ → Velocity
 velocityAt m t =
     let τ = tauAt m t in
     record {
-      x = mul binary64 (slopeOf rounded (m .cx) τ) (tauRate m);
-      y = mul binary64 (slopeOf rounded (m .cy) τ) (tauRate m);
-      z = mul binary64 (slopeOf rounded (m .cz) τ) (tauRate m);
+      x = slopeOf rounded (m .cx) τ ⊗ tauRate m;
+      y = slopeOf rounded (m .cy) τ ⊗ tauRate m;
+      z = slopeOf rounded (m .cz) τ ⊗ tauRate m;
     }
 
 -- position and velocity

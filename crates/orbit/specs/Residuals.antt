@@ -4,11 +4,12 @@ use mathlib.Core.List.{List, [], _∷_}
 use lib.IntN.{ℤ, pos, _-ℤ_, _*ℤ_}
 use lib.ListN.{length}
 use lib.Ieee.{Float, fin, binary64, add, sub, mul, div}
-use Rattle.float.specs.Numbers.{minusZero, one}
+use Rattle.common.specs.Rounded.{_⊕_, _⊖_, _⊗_, _⊘_}
+use Rattle.common.specs.Numbers.{minusZero, one}
 use Rattle.float.specs.Root.{root}
 use Rattle.float.specs.Conversions.{nearestOf, truncatedOf}
 use Rattle.units.specs.declared.Observer.{Observer}
-use Rattle.checks.specs.Outcome.{Outcome, refused, answered}
+use Rattle.common.specs.Outcome.{Outcome, refused, answered}
 use Rattle.samples.specs.Means.{Sample, microsecond}
 use Rattle.samples.specs.Slant.{lightSpeed}
 use Rattle.orbit.specs.Propagation.{Motion, propagated}
@@ -34,7 +35,7 @@ million = fin false 15625 (pos 6)
 
 -- a shift "in whole microseconds", toward zero
 abbrev pub microseconds : Float → ℤ
-microseconds shift = truncatedOf (mul binary64 shift million)
+microseconds shift = truncatedOf (shift ⊗ million)
 
 -- "A candidate moves each sample earlier by its shift in whole microseconds"
 abbrev pub moved : ℤ → Float → ℤ
@@ -45,13 +46,11 @@ abbrev pub rangeRate : Observer → Motion → Float
 rangeRate o m =
     let p = m .position in
     let v = m .velocity in
-    div binary64
-    (add binary64 (add binary64 (mul binary64 (sub binary64 (p .x) (o .x .0)) (v .x)) (mul binary64 (sub binary64 (p .y) (o .y .0)) (v .y))) (mul binary64 (sub binary64 (p .z) (o .z .0)) (v .z)))
-    (root binary64 (squaredRange o p))
+    ((p .x ⊖ o .x .0) ⊗ v .x ⊕ (p .y ⊖ o .y .0) ⊗ v .y ⊕ (p .z ⊖ o .z .0) ⊗ v .z) ⊘ root binary64 (squaredRange o p)
 
 -- what the measured frequency has over the one that the centre frequency becomes at that rate
 abbrev pub residualAt : Observer → Float → Float → Motion → Float
-residualAt o f0 frequency m = sub binary64 frequency (mul binary64 f0 (sub binary64 one (div binary64 (rangeRate o m) lightSpeed)))
+residualAt o f0 frequency m = frequency ⊖ f0 ⊗ (one ⊖ rangeRate o m ⊘ lightSpeed)
 
 -- "samples without a position are skipped"
 pub data Residual : Type 0 where
@@ -83,14 +82,14 @@ residuals f (x ∷ xs) = keep (f x) (residuals f xs)
 unfoldable pub total : Float → List Float → Float
 unfolding add
 total a [] = a
-total a (y ∷ ys) = total (add binary64 a y) ys
+total a (y ∷ ys) = total (a ⊕ y) ys
 
 -- "These two sums start at −0.0, as Rust's `sum` does"
 unfoldable pub meanOver : List Float → Float
 unfolding total div
-meanOver ys = div binary64 (total minusZero ys) (nearestOf (pos (length ys)))
+meanOver ys = total minusZero ys ⊘ nearestOf (pos (length ys))
 
 -- (y − mean) × (y − mean)
 unfoldable pub deviation : Float → Float → Float
 unfolding sub mul
-deviation mean y = mul binary64 (sub binary64 y mean) (sub binary64 y mean)
+deviation mean y = (y ⊖ mean) ⊗ (y ⊖ mean)

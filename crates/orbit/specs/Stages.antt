@@ -3,9 +3,9 @@ use mathlib.Core.Bool.{cond, _&&_}
 use mathlib.Core.List.{List, [], _∷_, map}
 use Prim.Native.Nat.{ℕ}
 use lib.Ieee.{Float, lt}
-use Rattle.float.specs.Numbers.{nought, largestFinite}
+use Rattle.common.specs.Numbers.{nought, largestFinite}
 use Rattle.orbit.specs.declared.stages.LeastSoFar.{LeastSoFar}
-use Rattle.checks.specs.Outcome.{Outcome, refused, answered}
+use Rattle.common.specs.Outcome.{Outcome, refused, answered}
 use Rattle.orbit.specs.declared.fit.Report.{Report}
 use Rattle.orbit.specs.Fit.{Trial, Best, noneYet, found, fine, micro, reported}
 

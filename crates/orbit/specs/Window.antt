@@ -7,17 +7,17 @@ use lib.Dec.{ltb, leb}
 use lib.IntN.{ℤ, pos, negsuc}
 use lib.Signed.{leZ}
 use lib.ListN.{length, getD, replicate}
-use lib.Ieee.{Float, nan, fin, binary64, sub, mul, div, lt}
-use Rattle.float.specs.Numbers.{nought, one, two, nine}
+use lib.Ieee.{Float, nan, fin, lt}
+use Rattle.common.specs.Rounded.{_⊖_, _⊗_, _⊘_}
+use Rattle.common.specs.Numbers.{nought, one, two, nine}
 use Rattle.float.specs.Conversions.{nearestOf}
 use Rattle.float.specs.Signs.{magnitudeOf}
-use Rattle.chebyshev.specs.Lists.{listOf}
+use Rattle.common.specs.Lists.{listOf}
 use Rattle.chebyshev.specs.Recurrence.{rounded, polynomials, terms}
-use Rattle.chebyshev.specs.Inverse.{Row, Matrix, inverted, singularRefusal}
-use Rattle.chebyshev.specs.Inverse.{Outcome as Inversion, singular, inverse}
+use Rattle.chebyshev.specs.Inverse.{Row, Matrix, inverted}
 use Rattle.chebyshev.specs.Ideal.{idealMatrix}
 use Rattle.chebyshev.specs.Coefficients.{coefficientsBy}
-use Rattle.checks.specs.Outcome.{Outcome, refused, answered, unlessRefused}
+use Rattle.common.specs.Outcome.{Outcome, refused, answered, mapped, unlessRefused}
 use Rattle.checks.specs.Entries.{firstFailing, propagationChecks}
 use Rattle.checks.specs.Limits.{axes}
 use Rattle.orbit.specs.declared.window.ChebyshevOrbit.{ChebyshevOrbit}
@@ -50,7 +50,7 @@ evenTolerance = one
 
 -- "Seconds are the rounded nanoseconds times 1e-9"
 abbrev pub secondsOf : ℤ → Float
-secondsOf n = mul binary64 (nearestOf n) nanosecond
+secondsOf n = nearestOf n ⊗ nanosecond
 
 -- the ten times of the window that begins at start
 abbrev pub windowSeconds : List ℤ → ℕ → List Float
@@ -66,7 +66,7 @@ lastTime t = getD t 9 nan
 
 -- "no gap differs from (t9 − t0)/9 by more than 1.0": the gap after time k is off by more than the tolerance; a NaN is not more
 abbrev pub wideGap : Float → List Float → ℕ → Bool
-wideGap tolerance t k = lt tolerance (magnitudeOf (sub binary64 (sub binary64 (getD t (k + 1) nan) (getD t k nan)) (div binary64 (sub binary64 (lastTime t) (firstTime t)) nine)))
+wideGap tolerance t k = lt tolerance (magnitudeOf (getD t (k + 1) nan ⊖ getD t k nan ⊖ (lastTime t ⊖ firstTime t) ⊘ nine))
 
 -- one of the n gaps from k on is wide
 unfoldable pub wideFrom : ℕ → ℕ → Float → List Float → Bool
@@ -79,7 +79,7 @@ uneven tolerance t = wideFrom 9 0 tolerance t
 
 -- τ of a time between the window's ends: 2 (t − t0)/(t9 − t0) − 1
 abbrev pub tauOf : Float → Float → Float → Float
-tauOf t0 t9 t = sub binary64 (div binary64 (mul binary64 two (sub binary64 t t0)) (sub binary64 t9 t0)) one
+tauOf t0 t9 t = two ⊗ (t ⊖ t0) ⊘ (t9 ⊖ t0) ⊖ one
 
 -- T0 to T9 at each of the ten times
 abbrev pub nodeMatrix : List Float → Matrix
@@ -103,13 +103,12 @@ modelBy inv t positions start = record {
   cz = coefficients inv positions start 2;
 }
 
--- an inversion that is refused by 8, or the model by it
-abbrev pub modelOr : Inversion → List Float → List Float → ℕ → Outcome ChebyshevOrbit
-modelOr singular t positions start = refused singularRefusal
-modelOr (inverse v) t positions start = answered (modelBy v t positions start)
+-- the model by an inversion, whose refusal stays
+abbrev pub modelOr : Outcome Matrix → List Float → List Float → ℕ → Outcome ChebyshevOrbit
+modelOr o t positions start = mapped (λ v. modelBy v t positions start) o
 
 -- "then ideal nodes −1 + 2k/9 are used": of an even window the ideal matrix is inverted, else that of its own nodes
-abbrev pub inversionOf : Float → List Float → Inversion
+abbrev pub inversionOf : Float → List Float → Outcome Matrix
 inversionOf tolerance t = inverted (cond (uneven tolerance t) (nodeMatrix t) idealMatrix)
 
 -- the model of the window that begins at start

@@ -2,11 +2,12 @@
 ghost use mathlib.Core.Path.{_≡_};
 ghost use Prim.Native.Nat.{_+_, _*_, _≤_};
 ghost use lib.IntN.{pos, natAbs, _+ℤ_};
+ghost use Rattle.common.specs.Lists.{listOf};
+ghost use Rattle.common.specs.Search.{betterOf, firstBest};
 ghost use Rattle.checks.specs.Limits.{farthestInstant};
 ghost use Rattle.checks.specs.Passed.{Table};
 ghost use Rattle.orbit.specs.Fitting.{farthestOffset};
-ghost use Rattle.orbit.specs.Propagation.{propagated};
-ghost use Rattle.orbit.specs.Closest.{squaredRange, movedBySeconds, nearer, seekNearest, closestInstant, closestApproach, closestIn};
+ghost use Rattle.orbit.specs.Closest.{squaredRange, movedBySeconds, nearer, ranged, rangedAt, closestInstant, closestApproach, closestIn};
 use crate::propagation::Propagation;
 use crate::propagation::propagate_at;
 use checks::refuse_closest;
@@ -63,7 +64,7 @@ fn nearer_at(
     best: Nearest,
 ) -> Nearest
     requires { ⌜ Table (now instants) (now positions) × (natAbs around ≤ farthestInstant) × (natAbs offset ≤ farthestOffset) ⌝ }
-    ensures { λ r. ⌜ r ≡ nearer observer (propagated tolerance (now (instants .entry)) (now (positions .entry)) (movedBySeconds around offset)) offset best ⌝ }
+    ensures { λ r. ⌜ r ≡ betterOf nearer best (ranged tolerance (now (instants .entry)) (now (positions .entry)) observer around offset) ⌝ }
 {
     let t = moved_by_seconds(around, offset);
     let Propagation::At(p, _) = propagate_at(instants, positions, t, tolerance) else {
@@ -89,7 +90,7 @@ fn seek_nearest(
     start: Nearest,
 ) -> Nearest
     requires { ⌜ Table (now instants) (now positions) × (natAbs around ≤ farthestInstant) × (natAbs first + step * count ≤ farthestOffset) ⌝ }
-    ensures { λ r. ⌜ r ≡ seekNearest tolerance (now (instants .entry)) (now (positions .entry)) observer around count 0 first step start ⌝ }
+    ensures { λ r. ⌜ r ≡ firstBest nearer start (listOf (rangedAt tolerance (now (instants .entry)) (now (positions .entry)) observer around first step) count 0) ⌝ }
 {
     let mut best = start;
     for k in 0..count {

@@ -16,6 +16,7 @@ use crate::closest::closest_at;
 use crate::stages::LeastSoFar;
 use crate::stages::coarse_stage;
 use crate::stages::run_stage;
+use checks::MOST_SAMPLES;
 use checks::refuse_fit;
 use float::nearest;
 use units::Hertz;
@@ -164,7 +165,7 @@ pub fn fit_satellite(
     if refusal != 0 {
         return Fitted::Refused(refusal);
     }
-    let mut values = [0.0; 4096];
+    let mut values = [0.0; MOST_SAMPLES];
     fit_about(
         instants,
         positions,

@@ -11,6 +11,7 @@ ghost use Rattle.orbit.specs.Residuals.{inputsOf};
 ghost use Rattle.orbit.specs.Passes.{measuredBy, passReport, passInstants, passFrequencies};
 use crate::fit::Fitted;
 use crate::fit::fit_about;
+use checks::MOST_SAMPLES;
 use checks::refuse_pass;
 use samples::Approach;
 use samples::Downsampled;
@@ -48,7 +49,7 @@ fn fit_means(
     ensures { λ r. ⌜ fitIn r ≡ fitted (inputsOf tolerance (now (instants .entry)) (now (positions .entry)) observer f0) (recording (now (means .entry)) (now (frequencies .entry))) (measuredBy (now (means .entry)) (now (frequencies .entry))) ⌝ }
 {
     let measured = approach_or_middle(means, frequencies);
-    let mut values = [0.0; 4096];
+    let mut values = [0.0; MOST_SAMPLES];
     fit_about(
         instants,
         positions,

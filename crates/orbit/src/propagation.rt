@@ -1,6 +1,6 @@
 // Position and velocity at an instant.
 ghost use mathlib.Core.Path.{_≡_};
-ghost use Rattle.checks.specs.Outcome.{answered};
+ghost use Rattle.common.specs.Outcome.{answered};
 ghost use Rattle.checks.specs.Passed.{Table};
 ghost use Rattle.orbit.specs.Propagation.{motionAt, motionIn, propagated, evaluation, propagation};
 use crate::window::ChebyshevOrbit;

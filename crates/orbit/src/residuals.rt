@@ -11,7 +11,7 @@ ghost use Rattle.orbit.specs.Fitting.{Fitting, farthestShift, farthestMi
 ghost use Rattle.checks.specs.Passed.{Table};
 ghost use Rattle.orbit.specs.Propagation.{propagated};
 ghost use Rattle.orbit.specs.Residuals.{microseconds, residualAt, residualIn, keep, inputsOf, residuals, residualOf, total, deviation};
-ghost use Rattle.float.specs.Numbers.{minusZero};
+ghost use Rattle.common.specs.Numbers.{minusZero};
 use crate::propagation::Propagation;
 use crate::propagation::propagate_at;
 use float::sqrt;

@@ -7,8 +7,7 @@ ghost use Rattle.checks.specs.Checks.{unrising};
 ghost use Rattle.orbit.specs.Window.{lastBefore, startOf, windowStart, secondsOf, windowSeconds, uneven, tauOf, nodeMatrix, axisOf, modelOr, modelAt, blankModel, modelAnswer, chebyshevModel};
 ghost use Rattle.chebyshev.specs.Inverse.{inverted};
 ghost use Rattle.chebyshev.specs.Ideal.{idealMatrix};
-use chebyshev::coefficients_by;
-use chebyshev::gauss_jordan;
+use chebyshev::coefficients_through;
 use chebyshev::ideal_coefficients;
 use chebyshev::values_at;
 use checks::refuse_propagation;
@@ -176,14 +175,19 @@ fn uneven_model(positions: &[f64], start: usize, t: [f64; 10]) -> Model
     requires { ⌜ 3 * (start + 10) ≤ length (now positions) ⌝ }
     ensures { λ r. ⌜ r ≡ modelAnswer (modelOr (inverted (nodeMatrix t)) t (now (positions .entry)) start) ⌝ }
 {
-    let mut refusal = 0u8;
-    let inverse = gauss_jordan(nodes_of(t), &mut refusal);
+    let c = coefficients_through(
+        nodes_of(t),
+        axis_of(positions, start, 0),
+        axis_of(positions, start, 1),
+        axis_of(positions, start, 2),
+    );
+    let refusal = c.refusal;
     if refusal != 0 {
         return refused_model(refusal);
     }
-    let cx = coefficients_by(&inverse, axis_of(positions, start, 0));
-    let cy = coefficients_by(&inverse, axis_of(positions, start, 1));
-    let cz = coefficients_by(&inverse, axis_of(positions, start, 2));
+    let cx = c.cx;
+    let cy = c.cy;
+    let cz = c.cz;
     Model {
         refusal: 0,
         orbit: ChebyshevOrbit {

@@ -8,30 +8,22 @@ use native.Mathlib.Omega.{arith}
 use lib.IntN.{ℤ, pos}
 use lib.ListN.{length, getD}
 use lib.Ieee.{Float, lt}
-use Rattle.float.specs.Numbers.{nought}
+use Rattle.common.specs.Numbers.{nought}
 use Rattle.units.specs.declared.Observer.{Observer}
-use Rattle.chebyshev.specs.Inverse.{singular, inverse}
-use Rattle.chebyshev.specs.Inverse.{Outcome as Inversion}
-use Rattle.checks.specs.Outcome.{Outcome, refused, answered, outcome, unlessRefused}
+use Rattle.orbit.proofs.Models.{inversion-told}
+use Rattle.common.specs.Outcome.{Told, mapped, Outcome, refused, answered, outcome, unlessRefused, refusalIn}
 use Rattle.checks.specs.Entries.{firstFailing, evaluationChecks, propagationChecks, closestChecks, samplesChecks, fitChecks}
 use Rattle.samples.specs.Means.{recording, means, meansRefusal, meansCount}
 use Rattle.samples.specs.Approach.{noFloor, steepestSlope, leastSlope, approachOf, measuredApproach, steepest}
 use Rattle.orbit.specs.declared.window.ChebyshevOrbit.{ChebyshevOrbit}
-use Rattle.orbit.specs.Window.{evenTolerance, windowStart, windowSeconds, inversionOf, modelOr, modelAbout, chebyshevModel}
+use Rattle.orbit.specs.Window.{evenTolerance, windowStart, windowSeconds, inversionOf, modelAbout, chebyshevModel}
 use Rattle.orbit.specs.Propagation.{motionAt, evaluated, evaluation, propagation}
 use Rattle.orbit.specs.Closest.{closestInstant, closestApproach}
 use Rattle.orbit.specs.Residuals.{Inputs, residualOf}
 use Rattle.orbit.specs.Fit.{Trial, trial, Best, noneYet, found, reportOf, firstLeast, shifts, fitBy, centreOf, fitted, satelliteFit}
 use Rattle.orbit.specs.Passes.{measuredOf, passRefusal, passOutcome, passReport}
-use Rattle.orbit_abi.specs.Areas.{refusalIn}
 
--- an answer, or a refusal whose number is not 0
-abbrev pub Told : {A : Type 0} → Outcome A → Type 0
-Told (refused zero) = ⊥
-Told (refused (suc n)) = Unit {0}
-Told (answered a) = Unit {0}
-
--- then the number 0 is an answer's
+-- the number 0 is an answer's
 pub answered-by-zero : {A : Type 0} (o : Outcome A) → Told o → refusalIn o ≡ 0 → (a : A) × (o ≡ answered a)
 answered-by-zero (refused zero) t e = absurd t
 answered-by-zero (refused (suc n)) t e = absurd (omega (arith, e))
@@ -47,9 +39,10 @@ after-checks : {A : Type 0} (n : ℕ) (o : Outcome A) → Told o → Told (unles
 after-checks zero o t = t
 after-checks (suc n) o t = tt
 
-by-inversion : (i : Inversion) (t positions : List Float) (start : ℕ) → Told (modelOr i t positions start)
-by-inversion singular t positions start = tt
-by-inversion (inverse v) t positions start = tt
+by-answer : {A B : Type 0} (f : A → B) (o : Outcome A) → Told o → Told (mapped f o)
+by-answer f (refused zero) t = t
+by-answer f (refused (suc n)) t = tt
+by-answer f (answered a) t = tt
 
 by-model : (o : Outcome ChebyshevOrbit) (t : ℤ) → Told o → Told (evaluated o t)
 by-model (refused zero) t h = h
@@ -69,7 +62,7 @@ unfolding fitBy
 by-fit try n centre = by-best n (firstLeast try (shifts try centre))
 
 about : (instants : List ℤ) (positions : List Float) (t : ℤ) → Told (modelAbout evenTolerance instants positions t)
-about instants positions t = let w = windowSeconds instants (windowStart instants t) in by-inversion (inversionOf evenTolerance w) w positions (windowStart instants t)
+about instants positions t = let w = windowSeconds instants (windowStart instants t) in by-answer _ (inversionOf evenTolerance w) (inversion-told evenTolerance w)
 
 -- ---- the entries
 

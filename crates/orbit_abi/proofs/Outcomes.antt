@@ -5,13 +5,11 @@ use mathlib.Core.List.{List}
 use Prim.Native.Nat.{ℕ, zero, suc}
 use native.Mathlib.Omega.{arith}
 use lib.Ieee.{Float}
-use Rattle.chebyshev.specs.Inverse.{singular, inverse}
-use Rattle.chebyshev.specs.Inverse.{Outcome as Inversion}
-use Rattle.checks.specs.Outcome.{Outcome, refused, answered, unlessRefused}
+use Rattle.chebyshev.specs.Inverse.{Matrix}
+use Rattle.common.specs.Outcome.{Outcome, refused, answered, Told, unlessRefused, refusalIn, areaOf}
 use Rattle.orbit.specs.declared.window.ChebyshevOrbit.{ChebyshevOrbit}
 use Rattle.orbit.specs.declared.window.Model.{Model}
 use Rattle.orbit.specs.Window.{modelOr, modelAnswer}
-use Rattle.orbit_abi.specs.Areas.{refusalIn, areaOf}
 
 -- ---- by the case that the entry's answer is: what was written is v
 
@@ -35,11 +33,12 @@ suc-not-nought : (n : ℕ) → suc n ≡ 0 → ⊥
 suc-not-nought n h = omega arith
 
 module _ {B : Type 0} (f : ChebyshevOrbit → B) (old : B) (m : Model) where
-  pub model-answered : (n : ℕ) (i : Inversion) (t positions : List Float) (start : ℕ) (v : B) → m ≡ modelAnswer (unlessRefused n (modelOr i t positions start)) → m .refusal ≡ 0 → v ≡ f (m .orbit)
+  pub model-answered : (n : ℕ) (i : Outcome Matrix) (t positions : List Float) (start : ℕ) (v : B) → Told i → m ≡ modelAnswer (unlessRefused n (modelOr i t positions start)) → m .refusal ≡ 0 → v ≡ f (m .orbit)
       → (m .refusal ≡ refusalIn (unlessRefused n (modelOr i t positions start))) × (v ≡ areaOf f (unlessRefused n (modelOr i t positions start)) old)
-  model-answered zero singular t positions start v e z w = absurd (suc-not-nought 7 (sym (ap refusal-of e) ∙ z))
-  model-answered zero (inverse x) t positions start v e z w = (z, w ∙ ap (λ (y : Model). f (y .orbit)) e)
-  model-answered (suc n) i t positions start v e z w = absurd (suc-not-nought n (sym (ap refusal-of e) ∙ z))
+  model-answered zero (refused zero) t positions start v told e z w = absurd told
+  model-answered zero (refused (suc n)) t positions start v told e z w = absurd (suc-not-nought n (sym (ap refusal-of e) ∙ z))
+  model-answered zero (answered x) t positions start v told e z w = (z, w ∙ ap (λ (y : Model). f (y .orbit)) e)
+  model-answered (suc n) i t positions start v told e z w = absurd (suc-not-nought n (sym (ap refusal-of e) ∙ z))
 
   pub model-refused : (o : Outcome ChebyshevOrbit) → m ≡ modelAnswer o → (m .refusal ≡ 0 → ⊥) → (m .refusal ≡ refusalIn o) × (old ≡ areaOf f o old)
   model-refused (refused n) e h = (ap refusal-of e, refl)

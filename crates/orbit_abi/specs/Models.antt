@@ -6,7 +6,8 @@ use mathlib.Core.List.{List, [], _∷_}
 use lib.Dec.{ltb}
 use lib.ListN.{getD}
 use lib.Ieee.{Float, nan}
-use Rattle.chebyshev.specs.Lists.{listOf}
+use Rattle.common.specs.Lists.{listOf}
+use Rattle.units.specs.declared.Metres.{Metres}
 use Rattle.units.specs.declared.Observer.{Observer}
 use Rattle.orbit.specs.declared.fit.Report.{Report}
 use Rattle.orbit.specs.declared.window.ChebyshevOrbit.{ChebyshevOrbit}
@@ -37,6 +38,6 @@ motionNumbers m = m .position .x ∷ m .position .y ∷ m .position .z ∷ m .ve
 abbrev pub reportNumbers : Report → List Float
 reportNumbers r = r .clock .0 ∷ r .frequency .0 ∷ r .rmse .0 ∷ []
 
--- the observer at three lengths in metres
-abbrev pub observerOf : Float → Float → Float → Observer
-observerOf x y z = record { x = record { 0 = x }; y = record { 0 = y }; z = record { 0 = z } }
+-- the observer at three lengths
+abbrev pub observerOf : Metres → Metres → Metres → Observer
+observerOf x y z = record { x = x; y = y; z = z }

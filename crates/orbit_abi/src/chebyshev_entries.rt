@@ -1,9 +1,10 @@
 // The Chebyshev sum and the ten by ten inverse.
 ghost use mathlib.Core.Path.{_≡_};
 ghost use Prim.Native.Nat.{_<_};
+ghost use Rattle.common.specs.Outcome.{refusalIn, areaOf};
 ghost use Rattle.chebyshev.specs.Recurrence.{rounded, valueOf, slopeOf};
-ghost use Rattle.chebyshev.specs.Inverse.{inverted, refusalOf};
-ghost use Rattle.orbit_abi.specs.Areas.{rowAt, rowsIn, inverseArea};
+ghost use Rattle.chebyshev.specs.Inverse.{inverted, flat};
+ghost use Rattle.orbit_abi.specs.Areas.{rowAt, rowsIn};
 
 // The Chebyshev sum with the coefficients c at tau, and its slope for each unit of tau.
 #[no_mangle]
@@ -46,7 +47,7 @@ fn rows_of(rows: &[f64; 100]) -> [[f64; 10]; 10]
 // The inverse of the matrix, row after row, into `inverse`, and 0; or 8, and `inverse` untouched.
 #[no_mangle]
 pub extern "C" fn orbit_invert_matrix_10(rows: &[f64; 100], inverse: &mut [f64; 100]) -> u8
-    ensures { λ r. ⌜ (r ≡ refusalOf (inverted (rowsIn (now (rows .entry))))) × (now (inverse .exit) ≡ inverseArea (inverted (rowsIn (now (rows .entry)))) (now (inverse .entry))) ⌝ }
+    ensures { λ r. ⌜ (r ≡ refusalIn (inverted (rowsIn (now (rows .entry))))) × (now (inverse .exit) ≡ areaOf flat (inverted (rowsIn (now (rows .entry)))) (now (inverse .entry))) ⌝ }
 {
     let i = chebyshev::invert_matrix_10(rows_of(rows));
     let refusal = i.refusal;

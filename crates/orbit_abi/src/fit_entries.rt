@@ -1,11 +1,11 @@
 // The fit of a recording to a satellite, and the whole pass.
 ghost use mathlib.Core.Path.{_≡_};
+ghost use Rattle.common.specs.Outcome.{refusalIn, areaOf};
 ghost use Rattle.orbit.specs.Window.{evenTolerance};
 ghost use Rattle.orbit.specs.Fit.{satelliteFit, fitIn};
 ghost use Rattle.orbit.specs.Residuals.{inputsOf};
 ghost use Rattle.orbit.specs.Passes.{passReport, passInstants, passFrequencies};
 ghost use Rattle.orbit.specs.declared.fit.Report.{Report};
-ghost use Rattle.orbit_abi.specs.Areas.{refusalIn, areaOf};
 ghost use Rattle.orbit_abi.specs.Models.{observerOf, reportNumbers};
 use orbit::Fitted;
 use units::Hertz;
@@ -28,29 +28,29 @@ fn fitted_into(found: Fitted, report: &mut [f64; 3], count: &mut u64) -> u8
     }
 }
 
-// Clock offset (seconds), frequency offset and RMSE (hertz) of samples about the instant in nanoseconds of the measured approach, and how many samples there are.
+// Clock offset (seconds), frequency offset and RMSE (hertz) of samples about the instant of the measured approach, and how many samples there are.
 #[no_mangle]
 pub extern "C" fn orbit_fit_satellite(
     instants: &[i64],
     positions: &[f64],
     samples: &[i64],
     frequencies: &[f64],
-    ox: f64,
-    oy: f64,
-    oz: f64,
-    f0: f64,
-    measured: i64,
+    ox: Metres,
+    oy: Metres,
+    oz: Metres,
+    f0: Hertz,
+    measured: Nanoseconds,
     report: &mut [f64; 3],
     count: &mut u64,
 ) -> u8
-    ensures { λ r. ⌜ r ≡ refusalIn (satelliteFit (inputsOf evenTolerance (now (instants .entry)) (now (positions .entry)) (observerOf ox oy oz) f0) (now (samples .entry)) (now (frequencies .entry)) measured) ⌝ }
-    ensures { λ r. ⌜ now (report .exit) ≡ areaOf reportNumbers (satelliteFit (inputsOf evenTolerance (now (instants .entry)) (now (positions .entry)) (observerOf ox oy oz) f0) (now (samples .entry)) (now (frequencies .entry)) measured) (now (report .entry)) ⌝ }
-    ensures { λ r. ⌜ now (count .exit) ≡ areaOf (λ (x : Report). x .count) (satelliteFit (inputsOf evenTolerance (now (instants .entry)) (now (positions .entry)) (observerOf ox oy oz) f0) (now (samples .entry)) (now (frequencies .entry)) measured) (now (count .entry)) ⌝ }
+    ensures { λ r. ⌜ r ≡ refusalIn (satelliteFit (inputsOf evenTolerance (now (instants .entry)) (now (positions .entry)) (observerOf ox oy oz) (f0 .0)) (now (samples .entry)) (now (frequencies .entry)) (measured .0)) ⌝ }
+    ensures { λ r. ⌜ now (report .exit) ≡ areaOf reportNumbers (satelliteFit (inputsOf evenTolerance (now (instants .entry)) (now (positions .entry)) (observerOf ox oy oz) (f0 .0)) (now (samples .entry)) (now (frequencies .entry)) (measured .0)) (now (report .entry)) ⌝ }
+    ensures { λ r. ⌜ now (count .exit) ≡ areaOf (λ (x : Report). x .count) (satelliteFit (inputsOf evenTolerance (now (instants .entry)) (now (positions .entry)) (observerOf ox oy oz) (f0 .0)) (now (samples .entry)) (now (frequencies .entry)) (measured .0)) (now (count .entry)) ⌝ }
 {
     let observer = Observer {
-        x: Metres(ox),
-        y: Metres(oy),
-        z: Metres(oz),
+        x: ox,
+        y: oy,
+        z: oz,
     };
     let found = orbit::fit_satellite(
         instants,
@@ -58,8 +58,8 @@ pub extern "C" fn orbit_fit_satellite(
         samples,
         frequencies,
         observer,
-        Hertz(f0),
-        Nanoseconds(measured),
+        f0,
+        measured,
     );
     fitted_into(found, report, count)
 }
@@ -71,25 +71,25 @@ pub extern "C" fn orbit_pass(
     positions: &[f64],
     samples: &[i64],
     frequencies: &[f64],
-    ox: f64,
-    oy: f64,
-    oz: f64,
-    f0: f64,
+    ox: Metres,
+    oy: Metres,
+    oz: Metres,
+    f0: Hertz,
     mean_instants: &mut [i64],
     mean_frequencies: &mut [f64],
     report: &mut [f64; 3],
     count: &mut u64,
 ) -> u8
-    ensures { λ r. ⌜ r ≡ refusalIn (passReport (inputsOf evenTolerance (now (instants .entry)) (now (positions .entry)) (observerOf ox oy oz) f0) (now (samples .entry)) (now (frequencies .entry)) (now («mean_instants» .entry)) (now («mean_frequencies» .entry))) ⌝ }
-    ensures { λ r. ⌜ now (report .exit) ≡ areaOf reportNumbers (passReport (inputsOf evenTolerance (now (instants .entry)) (now (positions .entry)) (observerOf ox oy oz) f0) (now (samples .entry)) (now (frequencies .entry)) (now («mean_instants» .entry)) (now («mean_frequencies» .entry))) (now (report .entry)) ⌝ }
-    ensures { λ r. ⌜ now (count .exit) ≡ areaOf (λ (x : Report). x .count) (passReport (inputsOf evenTolerance (now (instants .entry)) (now (positions .entry)) (observerOf ox oy oz) f0) (now (samples .entry)) (now (frequencies .entry)) (now («mean_instants» .entry)) (now («mean_frequencies» .entry))) (now (count .entry)) ⌝ }
-    ensures { λ r. ⌜ now («mean_instants» .exit) ≡ passInstants (inputsOf evenTolerance (now (instants .entry)) (now (positions .entry)) (observerOf ox oy oz) f0) (now (samples .entry)) (now (frequencies .entry)) (now («mean_instants» .entry)) (now («mean_frequencies» .entry)) ⌝ }
-    ensures { λ r. ⌜ now («mean_frequencies» .exit) ≡ passFrequencies (inputsOf evenTolerance (now (instants .entry)) (now (positions .entry)) (observerOf ox oy oz) f0) (now (samples .entry)) (now (frequencies .entry)) (now («mean_instants» .entry)) (now («mean_frequencies» .entry)) ⌝ }
+    ensures { λ r. ⌜ r ≡ refusalIn (passReport (inputsOf evenTolerance (now (instants .entry)) (now (positions .entry)) (observerOf ox oy oz) (f0 .0)) (now (samples .entry)) (now (frequencies .entry)) (now («mean_instants» .entry)) (now («mean_frequencies» .entry))) ⌝ }
+    ensures { λ r. ⌜ now (report .exit) ≡ areaOf reportNumbers (passReport (inputsOf evenTolerance (now (instants .entry)) (now (positions .entry)) (observerOf ox oy oz) (f0 .0)) (now (samples .entry)) (now (frequencies .entry)) (now («mean_instants» .entry)) (now («mean_frequencies» .entry))) (now (report .entry)) ⌝ }
+    ensures { λ r. ⌜ now (count .exit) ≡ areaOf (λ (x : Report). x .count) (passReport (inputsOf evenTolerance (now (instants .entry)) (now (positions .entry)) (observerOf ox oy oz) (f0 .0)) (now (samples .entry)) (now (frequencies .entry)) (now («mean_instants» .entry)) (now («mean_frequencies» .entry))) (now (count .entry)) ⌝ }
+    ensures { λ r. ⌜ now («mean_instants» .exit) ≡ passInstants (inputsOf evenTolerance (now (instants .entry)) (now (positions .entry)) (observerOf ox oy oz) (f0 .0)) (now (samples .entry)) (now (frequencies .entry)) (now («mean_instants» .entry)) (now («mean_frequencies» .entry)) ⌝ }
+    ensures { λ r. ⌜ now («mean_frequencies» .exit) ≡ passFrequencies (inputsOf evenTolerance (now (instants .entry)) (now (positions .entry)) (observerOf ox oy oz) (f0 .0)) (now (samples .entry)) (now (frequencies .entry)) (now («mean_instants» .entry)) (now («mean_frequencies» .entry)) ⌝ }
 {
     let observer = Observer {
-        x: Metres(ox),
-        y: Metres(oy),
-        z: Metres(oz),
+        x: ox,
+        y: oy,
+        z: oz,
     };
     let found = orbit::pass(
         instants,
@@ -97,7 +97,7 @@ pub extern "C" fn orbit_pass(
         samples,
         frequencies,
         observer,
-        Hertz(f0),
+        f0,
         mean_instants,
         mean_frequencies,
     );

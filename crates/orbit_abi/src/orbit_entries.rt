@@ -2,10 +2,10 @@
 ghost use mathlib.Core.Path.{_≡_};
 ghost use Prim.Native.Nat.{_<_, _≤_};
 ghost use lib.IntN.{ℤ};
+ghost use Rattle.common.specs.Outcome.{refusalIn, areaOf};
 ghost use Rattle.orbit.specs.Window.{chebyshevModel};
 ghost use Rattle.orbit.specs.Propagation.{evaluation, propagation, motionIn};
 ghost use Rattle.orbit.specs.Closest.{closestApproach};
-ghost use Rattle.orbit_abi.specs.Areas.{refusalIn, areaOf};
 ghost use Rattle.orbit_abi.specs.Models.{modelNumber, modelNumbers, rowFrom, modelIn, motionNumbers, observerOf};
 use orbit::ChebyshevOrbit;
 use orbit::ClosestApproach;
@@ -77,17 +77,17 @@ fn model_of(numbers: &[f64; 32]) -> ChebyshevOrbit
     }
 }
 
-// The model of the window about an instant in nanoseconds: t0, t9, cx, cy, cz.
+// The model of the window about an instant: t0, t9, cx, cy, cz.
 #[no_mangle]
 pub extern "C" fn orbit_get_chebyshev_model(
     instants: &[i64],
     positions: &[f64],
-    instant: i64,
+    instant: Nanoseconds,
     model: &mut [f64; 32],
 ) -> u8
-    ensures { λ r. ⌜ (r ≡ refusalIn (chebyshevModel (now (instants .entry)) (now (positions .entry)) instant)) × (now (model .exit) ≡ areaOf modelNumbers (chebyshevModel (now (instants .entry)) (now (positions .entry)) instant) (now (model .entry))) ⌝ }
+    ensures { λ r. ⌜ (r ≡ refusalIn (chebyshevModel (now (instants .entry)) (now (positions .entry)) (instant .0))) × (now (model .exit) ≡ areaOf modelNumbers (chebyshevModel (now (instants .entry)) (now (positions .entry)) (instant .0)) (now (model .entry))) ⌝ }
 {
-    let m = orbit::get_chebyshev_model(instants, positions, Nanoseconds(instant));
+    let m = orbit::get_chebyshev_model(instants, positions, instant);
     let refusal = m.refusal;
     if refusal == 0 {
         let o = m.orbit;
@@ -111,49 +111,46 @@ fn motion_into(found: Propagation, out: &mut [f64; 6]) -> u8
     }
 }
 
-// Position (metres) and velocity (metres for each second) by a model at an instant in nanoseconds: x, y, z each.
+// Position (metres) and velocity (metres for each second) by a model at an instant: x, y, z each.
 #[no_mangle]
-pub extern "C" fn orbit_evaluate(model: &[f64; 32], instant: i64, out: &mut [f64; 6]) -> u8
-    ensures { λ r. ⌜ (r ≡ refusalIn (evaluation (modelIn (now (model .entry))) instant)) × (now (out .exit) ≡ areaOf motionNumbers (evaluation (modelIn (now (model .entry))) instant) (now (out .entry))) ⌝ }
+pub extern "C" fn orbit_evaluate(model: &[f64; 32], instant: Nanoseconds, out: &mut [f64; 6]) -> u8
+    ensures { λ r. ⌜ (r ≡ refusalIn (evaluation (modelIn (now (model .entry))) (instant .0))) × (now (out .exit) ≡ areaOf motionNumbers (evaluation (modelIn (now (model .entry))) (instant .0)) (now (out .entry))) ⌝ }
 {
-    motion_into(orbit::evaluate(model_of(model), Nanoseconds(instant)), out)
+    motion_into(orbit::evaluate(model_of(model), instant), out)
 }
 
-// Position (metres) and velocity (metres for each second) by a table at an instant in nanoseconds: x, y, z each.
+// Position (metres) and velocity (metres for each second) by a table at an instant: x, y, z each.
 #[no_mangle]
 pub extern "C" fn orbit_propagate_ecef(
     instants: &[i64],
     positions: &[f64],
-    instant: i64,
+    instant: Nanoseconds,
     out: &mut [f64; 6],
 ) -> u8
-    ensures { λ r. ⌜ (r ≡ refusalIn (propagation (now (instants .entry)) (now (positions .entry)) instant)) × (now (out .exit) ≡ areaOf motionNumbers (propagation (now (instants .entry)) (now (positions .entry)) instant) (now (out .entry))) ⌝ }
+    ensures { λ r. ⌜ (r ≡ refusalIn (propagation (now (instants .entry)) (now (positions .entry)) (instant .0))) × (now (out .exit) ≡ areaOf motionNumbers (propagation (now (instants .entry)) (now (positions .entry)) (instant .0)) (now (out .entry))) ⌝ }
 {
-    motion_into(
-        orbit::propagate_ecef(instants, positions, Nanoseconds(instant)),
-        out,
-    )
+    motion_into(orbit::propagate_ecef(instants, positions, instant), out)
 }
 
-// The instant in nanoseconds of the closest approach to an observer (metres) about an instant in nanoseconds.
+// The instant in nanoseconds of the closest approach to an observer about an instant.
 #[no_mangle]
 pub extern "C" fn orbit_find_pca_time(
     instants: &[i64],
     positions: &[f64],
-    ox: f64,
-    oy: f64,
-    oz: f64,
-    instant: i64,
+    ox: Metres,
+    oy: Metres,
+    oz: Metres,
+    instant: Nanoseconds,
     found: &mut i64,
 ) -> u8
-    ensures { λ r. ⌜ (r ≡ refusalIn (closestApproach (now (instants .entry)) (now (positions .entry)) (observerOf ox oy oz) instant)) × (now (found .exit) ≡ areaOf (λ (t : ℤ). t) (closestApproach (now (instants .entry)) (now (positions .entry)) (observerOf ox oy oz) instant) (now (found .entry))) ⌝ }
+    ensures { λ r. ⌜ (r ≡ refusalIn (closestApproach (now (instants .entry)) (now (positions .entry)) (observerOf ox oy oz) (instant .0))) × (now (found .exit) ≡ areaOf (λ (t : ℤ). t) (closestApproach (now (instants .entry)) (now (positions .entry)) (observerOf ox oy oz) (instant .0)) (now (found .entry))) ⌝ }
 {
     let observer = Observer {
-        x: Metres(ox),
-        y: Metres(oy),
-        z: Metres(oz),
+        x: ox,
+        y: oy,
+        z: oz,
     };
-    let closest = orbit::find_pca_time(instants, positions, observer, Nanoseconds(instant));
+    let closest = orbit::find_pca_time(instants, positions, observer, instant);
     match closest {
         ClosestApproach::At(t) => {
             let nanoseconds = t.0;

@@ -3,14 +3,15 @@ ghost use mathlib.Core.Path.{_≡_};
 ghost use Prim.Native.Nat.{ℕ};
 ghost use lib.IntN.{ℤ};
 ghost use lib.Ieee.{Float};
+ghost use Rattle.common.specs.Outcome.{refusalIn, areaOf};
 ghost use Rattle.samples.specs.Approach.{measuredApproach, steepest};
 ghost use Rattle.samples.specs.Means.{meansCount, meansInstants, meansFrequencies};
 ghost use Rattle.samples.specs.Slant.{slantRange};
-ghost use Rattle.orbit_abi.specs.Areas.{refusalIn, areaOf};
 use samples::Approach;
 use samples::Downsampled;
 use samples::Slope;
 use units::Hertz;
+use units::Metres;
 
 // The means of the samples at the front of the two areas, seconds rising, and their count; the rest of each area stays, and a refusal writes nothing.
 #[no_mangle]
@@ -71,11 +72,10 @@ pub extern "C" fn orbit_steepest_slope(instants: &[i64], frequencies: &[f64], sl
     }
 }
 
-// The distance in metres to the satellite at its closest, from the centre frequency in hertz and the steepest slope in hertz for each second.
+// The distance to the satellite at its closest, from the centre frequency and the steepest slope in hertz for each second.
 #[no_mangle]
-pub extern "C" fn orbit_estimate_slant_range(f0: f64, slope: f64) -> f64
-    ensures { λ r. ⌜ r ≡ slantRange f0 slope ⌝ }
+pub extern "C" fn orbit_estimate_slant_range(f0: Hertz, slope: f64) -> Metres
+    ensures { λ r. ⌜ r .0 ≡ slantRange (f0 .0) slope ⌝ }
 {
-    let range = samples::estimate_slant_range(Hertz(f0), slope);
-    range.0
+    samples::estimate_slant_range(f0, slope)
 }

@@ -6,7 +6,7 @@ use native.Mathlib.Numerals.{add-one}
 use native.Mathlib.Omega.{arith}
 use lib.ListN.{length, getD, take, drop, set, length-append, length-drop}
 use lib.Seq.{take-suc, drop-cons, set-at, append-snoc, length-take-le, take-all}
-use Rattle.checks.specs.Outcome.{written}
+use Rattle.common.specs.Outcome.{written}
 
 -- the first c of the values at the front of the area
 abbrev pub filled : {A : Type 0} → List A → List A → ℕ → List A

@@ -6,7 +6,7 @@ use native.Mathlib.Omega.{arith}
 use lib.IntN.{ℤ, pos}
 use lib.ListN.{length, getD, set, length-map}
 use lib.Ieee.{Float, nan}
-use Rattle.checks.specs.Outcome.{written}
+use Rattle.common.specs.Outcome.{written}
 use Rattle.samples.specs.Means.{Sample, bin, seconds, recording, meanOf, means}
 use Rattle.samples.specs.Sums.{Recorded, instantsOfMeans, frequenciesOfMeans}
 use Rattle.samples.proofs.Seconds.{count-means, few-means}

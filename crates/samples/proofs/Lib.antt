@@ -2,6 +2,7 @@
 pub mod Gaps
 mod Slopes
 mod Answers
+pub mod FirstSlope
 mod Parts
 mod Starts
 pub mod Seconds

@@ -6,7 +6,7 @@ use native.Mathlib.Omega.{arith}
 use lib.IntN.{ℤ, pos}
 use lib.ListN.{length, getD, take, drop}
 use lib.Ieee.{Float, nan}
-use Rattle.float.specs.Numbers.{nought}
+use Rattle.common.specs.Numbers.{nought}
 use Rattle.samples.specs.Means.{Sample, recording, instants}
 
 -- what `getD` gives past the end

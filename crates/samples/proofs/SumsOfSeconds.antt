@@ -12,8 +12,8 @@ use lib.Signed.{quotZ}
 use lib.ListN.{length, getD, take, length-append}
 use lib.Seq.{take-suc}
 use lib.Ieee.{Float, binary64, add}
-use Rattle.checks.specs.Limits.{farthestInstant}
-use Rattle.float.specs.Numbers.{nought}
+use Rattle.checks.specs.Limits.{mostSamples, farthestInstant}
+use Rattle.common.specs.Numbers.{nought}
 use Rattle.samples.specs.Means.{Sample, microsecond, wholeSecond, eqZ, bin, offsets, frequencySum, meanInstant, meanFrequency, meanOf, instants}
 use Rattle.samples.specs.Sums.{sumsOf, moreOf, added, addedIn, meanFrom, asMean, Room, Held}
 use Rattle.samples.proofs.Parts.{over, under, Within, abs-parts, one-sided}
@@ -60,7 +60,7 @@ count-is [] = refl
 count-is (x ∷ xs) = refl
 
 -- room for one sample more of the second
-pub room : (s : ℤ) (xs : List Sample) (t : ℤ) → All s xs → length xs < 4096 → wholeSecond t ≡ s → Room (sumsOf xs) t
+pub room : (s : ℤ) (xs : List Sample) (t : ℤ) → All s xs → length xs < mostSamples → wholeSecond t ≡ s → Room (sumsOf xs) t
 unfolding sumsOf
 room s [] t a h e = record { few = omega arith; small = omega arith; near = λ n. absurd (omega arith) }
 room s (x ∷ xs) t a h e =
@@ -75,7 +75,7 @@ room s (x ∷ xs) t a h e =
     apart w (inr z) = omega (arith, abs-parts (t -ℤ x .instant), w .0)
 
 -- the sums of some samples of one second have a mean
-holds-mean : (s : ℤ) (xs : List Sample) → All s xs → xs ≢ [] → length xs ≤ 4096 → Limited farthestInstant (instants xs) → Held (sumsOf xs)
+holds-mean : (s : ℤ) (xs : List Sample) → All s xs → xs ≢ [] → length xs ≤ mostSamples → Limited farthestInstant (instants xs) → Held (sumsOf xs)
 unfolding sumsOf
 holds-mean s [] a n h l = absurd (n refl)
 holds-mean s (x ∷ xs) a n h l = record { some = omega arith; few = h; small = held-room s (x ∷ xs) a; limited = l 0 }
@@ -126,5 +126,5 @@ limited-bin L s (x ∷ xs) h k = go (eqZ (wholeSecond (x .instant)) s) k (limite
     go false k r = r k
 
 -- the sums of a second that holds a sample, of a recording that passes check 4
-pub held-bin : (s : ℤ) (S : List Sample) → bin s S ≢ [] → length S ≤ 4096 → Limited farthestInstant (instants S) → Held (sumsOf (bin s S))
+pub held-bin : (s : ℤ) (S : List Sample) → bin s S ≢ [] → length S ≤ mostSamples → Limited farthestInstant (instants S) → Held (sumsOf (bin s S))
 held-bin s S n h l = holds-mean s (bin s S) (all-in-bin s S) n (omega (arith, bin-short s S)) (limited-bin farthestInstant s S l)

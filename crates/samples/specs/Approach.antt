@@ -1,18 +1,22 @@
 -- `estimate_measured_pca_time` and the steepest slope: the first least slope below zero.
-use Prim.Native.Nat.{ℕ, zero, suc, _+_, _-_}
+use Prim.Native.Nat.{ℕ, _+_, _-_}
 use mathlib.Core.Bool.{Bool, true, false, not, _&&_, cond}
 use mathlib.Core.List.{List}
 use lib.IntN.{ℤ, pos, _-ℤ_}
 use lib.Signed.{quotZ}
 use lib.ListN.{length, getD}
 use lib.Ieee.{Float, nan, inf, fin, binary64, sub, div, lt}
+use Rattle.common.specs.Rounded.{_⊖_, _⊘_}
 use Rattle.float.specs.Conversions.{nearestOf}
-use Rattle.checks.specs.Outcome.{Outcome, refused, answered, outcome, unlessRefused}
+use Rattle.common.specs.Lists.{listOf}
+use Rattle.common.specs.Search.{firstBest}
+use Rattle.common.specs.Outcome.{Outcome, refused, answered, outcome, unlessRefused}
 use Rattle.checks.specs.Entries.{firstFailing, samplesChecks}
-use Rattle.float.specs.Numbers.{nought}
+use Rattle.common.specs.Numbers.{nought}
 use Rattle.samples.specs.declared.approach.Approach.{Approach}
 use Rattle.samples.specs.declared.approach.Approach.the-variants.{At}
 use Rattle.samples.specs.declared.approach.Approach.the-variants.{Refused as NoApproach}
+use Rattle.samples.specs.declared.approach.LeastSlope.{LeastSlope}
 use Rattle.samples.specs.declared.approach.Slope.{Slope}
 use Rattle.samples.specs.declared.approach.Slope.the-variants.{Steepest}
 use Rattle.samples.specs.declared.approach.Slope.the-variants.{Refused as NoSlope}
@@ -39,7 +43,7 @@ millisecond = 1000000
 
 -- "times in whole milliseconds over 1000": the seconds from one instant to another
 abbrev pub gapOf : ℤ → ℤ → Float
-gapOf previous next = div binary64 (nearestOf (quotZ (next -ℤ previous) (pos millisecond))) thousand
+gapOf previous next = nearestOf (quotZ (next -ℤ previous) (pos millisecond)) ⊘ thousand
 
 -- the seconds from the sample before sample i to the one after it
 abbrev pub gapAt : List ℤ → ℕ → Float
@@ -47,25 +51,27 @@ gapAt ts i = gapOf (getD ts (i - 1) (pos 0)) (getD ts (i + 1) (pos 0))
 
 -- "(f next − f previous)/(t next − t previous)" about sample i, in hertz for each second
 abbrev pub slopeAt : List ℤ → List Float → ℕ → Float
-slopeAt ts fs i = div binary64 (sub binary64 (getD fs (i + 1) nan) (getD fs (i - 1) nan)) (gapAt ts i)
+slopeAt ts fs i = (getD fs (i + 1) nan ⊖ getD fs (i - 1) nan) ⊘ gapAt ts i
 
--- a slope and the index of its middle sample
-pub record Least : Type 0 where
-  pub slope : Float
-  pub middle : ℕ
+-- sample i: its slope, and i itself, the middle
+abbrev pub sloped : List ℤ → List Float → ℕ → LeastSlope
+sloped ts fs i = record { slope = slopeAt ts fs i; middle = i }
 
--- "only where positive": sample i has a slope, it is below the least so far, and it is not under the floor
-abbrev pub steeper : Float → List ℤ → List Float → ℕ → Float → Bool
-steeper floor ts fs i least = lt nought (gapAt ts i) && (lt (slopeAt ts fs i) least && not (lt (slopeAt ts fs i) floor))
+-- "only where positive": a sample counts where the seconds about it are above zero, and its slope is not under the floor
+abbrev pub counts : Float → List ℤ → LeastSlope → Bool
+counts floor ts s = lt nought (gapAt ts (s .middle)) && not (lt (s .slope) floor)
 
--- of best and the n samples from i on, the first least
-unfoldable pub seekLeast : ℕ → Float → List ℤ → List Float → ℕ → Least → Least
-seekLeast zero floor ts fs i best = best
-seekLeast (suc n) floor ts fs i best = seekLeast n floor ts fs (i + 1) (cond (steeper floor ts fs i (best .slope)) (record { slope = slopeAt ts fs i; middle = i }) best)
+-- it counts, and its slope is below the other's
+abbrev pub steeper : Float → List ℤ → LeastSlope → LeastSlope → Bool
+steeper floor ts s t = counts floor ts s && lt (s .slope) (t .slope)
+
+-- no sample yet: slope +0.0
+abbrev pub flat : LeastSlope
+flat = record { slope = nought; middle = 0 }
 
 -- the first least slope below zero, over all samples but the first and the last; slope +0.0 where there is none
-abbrev pub leastSlope : Float → List ℤ → List Float → Least
-leastSlope floor ts fs = seekLeast (length ts - 2) floor ts fs 1 (record { slope = nought; middle = 0 })
+abbrev pub leastSlope : Float → List ℤ → List Float → LeastSlope
+leastSlope floor ts fs = firstBest (steeper floor ts) flat (listOf (sloped ts fs) (length ts - 2) 1)
 
 -- "the first least below zero gives its middle sample's instant", in nanoseconds; 9 where no slope below zero was found
 abbrev pub approachOf : List ℤ → List Float → Outcome ℤ

@@ -8,10 +8,11 @@ use lib.IntN.{ℤ, pos, negsuc, _+ℤ_, _-ℤ_, _*ℤ_}
 use lib.Signed.{ltZ, quotZ, shrZ}
 use lib.ListN.{length}
 use lib.Ieee.{Float, binary64, add, div}
+use Rattle.common.specs.Rounded.{_⊕_, _⊘_}
 use Rattle.float.specs.Conversions.{nearestOf}
-use Rattle.checks.specs.Outcome.{Outcome, refused, answered, outcome, area}
+use Rattle.common.specs.Outcome.{Outcome, refused, answered, outcome, area}
 use Rattle.checks.specs.Entries.{firstFailing, meansChecks}
-use Rattle.float.specs.Numbers.{nought}
+use Rattle.common.specs.Numbers.{nought}
 use Rattle.samples.specs.declared.means.Downsampled.{Downsampled}
 use Rattle.samples.specs.declared.means.Downsampled.the-variants.{Count, Refused}
 
@@ -70,7 +71,7 @@ offsets base (x ∷ xs) = quotZ (x .instant -ℤ base) (pos microsecond) +ℤ of
 unfoldable pub frequencySum : Float → List Sample → Float
 unfolding add
 frequencySum a [] = a
-frequencySum a (x ∷ xs) = frequencySum (add binary64 a (x .frequency)) xs
+frequencySum a (x ∷ xs) = frequencySum (a ⊕ x .frequency) xs
 
 -- "the bin's first plus (sum of offsets in whole microseconds, each toward zero) divided by the count, toward zero"
 unfoldable pub meanInstant : ℤ → List Sample → ℤ
@@ -80,7 +81,7 @@ meanInstant base xs = base +ℤ quotZ (offsets base xs) (pos (length xs)) *ℤ p
 -- "sum in sample order from 0.0, over the count"
 unfoldable pub meanFrequency : List Sample → Float
 unfolding frequencySum div
-meanFrequency xs = div binary64 (frequencySum nought xs) (nearestOf (pos (length xs)))
+meanFrequency xs = frequencySum nought xs ⊘ nearestOf (pos (length xs))
 
 -- the mean of a bin, whose base is its first sample's instant; an empty bin is no second's
 unfoldable pub meanOf : List Sample → Sample

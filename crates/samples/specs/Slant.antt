@@ -2,6 +2,7 @@
 use mathlib.Core.Bool.{false, cond}
 use lib.IntN.{pos, negsuc}
 use lib.Ieee.{Float, fin, binary64, mul, div, lt}
+use Rattle.common.specs.Rounded.{_⊗_, _⊘_}
 use Rattle.float.specs.Signs.{magnitudeOf}
 
 -- 7585 m/s, the speed of the satellite
@@ -24,5 +25,5 @@ fallbackRange = fin false 15625 (pos 7)
 abbrev pub slantRange : Float → Float → Float
 slantRange f0 slope =
     cond (lt leastSteepness (magnitudeOf slope))
-    (div binary64 (mul binary64 (mul binary64 f0 satelliteSpeed) satelliteSpeed) (mul binary64 lightSpeed (magnitudeOf slope)))
+    (f0 ⊗ satelliteSpeed ⊗ satelliteSpeed ⊘ (lightSpeed ⊗ magnitudeOf slope))
     fallbackRange

@@ -8,9 +8,10 @@ use lib.IntN.{ℤ, pos, natAbs, _+ℤ_, _-ℤ_, _*ℤ_}
 use lib.Signed.{quotZ}
 use lib.ListN.{length, getD}
 use lib.Ieee.{Float, binary64, add, div}
+use Rattle.common.specs.Rounded.{_⊕_, _⊘_}
 use Rattle.float.specs.Conversions.{nearestOf}
 use Rattle.checks.specs.Limits.{mostSamples, farthestInstant}
-use Rattle.float.specs.Numbers.{nought}
+use Rattle.common.specs.Numbers.{nought}
 use Rattle.samples.specs.declared.sums.Bin.{Bin}
 use Rattle.samples.specs.declared.sums.Mean.{Mean}
 use Rattle.samples.specs.Means.{Sample, second, microsecond, wholeSecond, eqZ, offsets, frequencySum, recording, means, instants, frequencies}
@@ -27,8 +28,8 @@ sumsOf (x ∷ xs) = record { count = length (x ∷ xs); base = x .instant; micro
 
 -- one sample more
 abbrev pub moreOf : Bool → Bin → ℤ → Float → Bin
-moreOf true b t f = record { count = 1; base = t; micros = pos 0; hertz = add binary64 (b .hertz) f }
-moreOf false b t f = record { count = b .count + 1; base = b .base; micros = b .micros +ℤ quotZ (t -ℤ b .base) (pos microsecond); hertz = add binary64 (b .hertz) f }
+moreOf true b t f = record { count = 1; base = t; micros = pos 0; hertz = b .hertz ⊕ f }
+moreOf false b t f = record { count = b .count + 1; base = b .base; micros = b .micros +ℤ quotZ (t -ℤ b .base) (pos microsecond); hertz = b .hertz ⊕ f }
 
 -- one sample more; the first gives the base
 abbrev pub added : Bin → ℤ → Float → Bin
@@ -46,7 +47,7 @@ pub record Room (b : Bin) (t : ℤ) : Type 0 where
 
 -- the mean by the sums
 abbrev pub meanFrom : Bin → Mean
-meanFrom b = record { instant = b .base +ℤ quotZ (b .micros) (pos (b .count)) *ℤ pos microsecond; frequency = div binary64 (b .hertz) (nearestOf (pos (b .count))) }
+meanFrom b = record { instant = b .base +ℤ quotZ (b .micros) (pos (b .count)) *ℤ pos microsecond; frequency = b .hertz ⊘ nearestOf (pos (b .count)) }
 
 -- the sums of at least one sample, whose mean stays in its range
 pub record Held (b : Bin) : Type 0 where

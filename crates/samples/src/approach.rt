@@ -1,11 +1,11 @@
 // The first least slope of a recording: the measured approach and the steepest slope.
 ghost use mathlib.Core.Path.{_≡_};
-ghost use mathlib.Core.Bool.{cond};
 ghost use Prim.Native.Nat.{ℕ, _+_, _<_, _≤_};
 ghost use lib.IntN.{pos, natAbs};
 ghost use lib.ListN.{length, getD};
+ghost use Rattle.common.specs.Search.{betterOf};
 ghost use Rattle.checks.specs.Limits.{farthestInstant};
-ghost use Rattle.samples.specs.Approach.{farthestMoved, gapOf, slopeAt, steeper, leastSlope, measuredApproach, steepest, approachIn, slopeIn};
+ghost use Rattle.samples.specs.Approach.{farthestMoved, gapOf, sloped, steeper, leastSlope, measuredApproach, steepest, approachIn, slopeIn};
 use checks::refuse_samples;
 use float::nearest;
 use units::Nanoseconds;
@@ -45,7 +45,7 @@ fn steeper_at(
     best: LeastSlope,
 ) -> LeastSlope
     requires { ⌜ (0 < i) × (i + 1 < length (now instants)) × (length (now frequencies) ≡ length (now instants)) × ((k : ℕ) → natAbs (getD (now instants) k (pos 0)) ≤ farthestInstant) ⌝ }
-    ensures { λ r. ⌜ (r .slope ≡ cond (steeper floor (now (instants .entry)) (now (frequencies .entry)) i (best .slope)) (slopeAt (now (instants .entry)) (now (frequencies .entry)) i) (best .slope)) × (r .middle ≡ cond (steeper floor (now (instants .entry)) (now (frequencies .entry)) i (best .slope)) i (best .middle)) ⌝ }
+    ensures { λ r. ⌜ r ≡ betterOf (steeper floor (now (instants .entry))) best (sloped (now (instants .entry)) (now (frequencies .entry)) i) ⌝ }
 {
     let gap = gap_between(instants[i - 1], instants[i + 1]);
     if !(gap > 0.0) {
@@ -64,7 +64,7 @@ fn steeper_at(
 // The first least slope below zero that is not under the floor; 0.0 where there is none.
 fn least_slope(instants: &[i64], frequencies: &[f64], floor: f64) -> LeastSlope
     requires { ⌜ (0 < length (now instants)) × (length (now frequencies) ≡ length (now instants)) × ((k : ℕ) → natAbs (getD (now instants) k (pos 0)) ≤ farthestInstant) ⌝ }
-    ensures { λ r. ⌜ (r .slope ≡ leastSlope floor (now (instants .entry)) (now (frequencies .entry)) .slope) × (r .middle ≡ leastSlope floor (now (instants .entry)) (now (frequencies .entry)) .middle) × (r .middle < length (now (instants .entry))) ⌝ }
+    ensures { λ r. ⌜ (r ≡ leastSlope floor (now (instants .entry)) (now (frequencies .entry))) × (r .middle < length (now (instants .entry))) ⌝ }
 {
     let mut best = LeastSlope {
         slope: 0.0,

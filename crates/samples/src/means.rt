@@ -2,7 +2,7 @@
 ghost use mathlib.Core.Path.{_≡_};
 ghost use Prim.Native.Nat.{_≤_, _<_};
 ghost use lib.ListN.{length};
-ghost use Rattle.checks.specs.Outcome.{written};
+ghost use Rattle.common.specs.Outcome.{written};
 ghost use Rattle.samples.specs.Means.{countOf, meansCount, meansInstants, meansFrequencies, recording, means};
 ghost use Rattle.samples.specs.Sums.{Recorded, instantsOfMeans, frequenciesOfMeans};
 ghost use Rattle.samples.specs.Sorting.{fewSamples};
@@ -11,6 +11,10 @@ use crate::runs::write_runs;
 use crate::sorting::copy_frequencies;
 use crate::sorting::copy_instants;
 use crate::sorting::sort_by_seconds;
+use checks::MOST_SAMPLES;
+
+// So few samples that short arrays hold them.
+const FEW_SAMPLES: usize = 64;
 
 // How many means were written, or the refusal (2, 3, 4).
 pub enum Downsampled {
@@ -67,10 +71,10 @@ fn write_shuffled(
     ensures { λ r. ⌜ now («mean_instants» .exit) ≡ written (instantsOfMeans (now (instants .entry)) (now (frequencies .entry))) (now («mean_instants» .entry)) ⌝ }
     ensures { λ r. ⌜ now («mean_frequencies» .exit) ≡ written (frequenciesOfMeans (now (instants .entry)) (now (frequencies .entry))) (now («mean_frequencies» .entry)) ⌝ }
 {
-    let mut sorted_instants = [0i64; 4096];
-    let mut sorted_frequencies = [0.0; 4096];
-    let mut spare_instants = [0i64; 4096];
-    let mut spare_frequencies = [0.0; 4096];
+    let mut sorted_instants = [0i64; MOST_SAMPLES];
+    let mut sorted_frequencies = [0.0; MOST_SAMPLES];
+    let mut spare_instants = [0i64; MOST_SAMPLES];
+    let mut spare_frequencies = [0.0; MOST_SAMPLES];
     write_sorted(
         instants,
         frequencies,
@@ -97,10 +101,10 @@ fn write_few_shuffled(
     ensures { λ r. ⌜ now («mean_instants» .exit) ≡ written (instantsOfMeans (now (instants .entry)) (now (frequencies .entry))) (now («mean_instants» .entry)) ⌝ }
     ensures { λ r. ⌜ now («mean_frequencies» .exit) ≡ written (frequenciesOfMeans (now (instants .entry)) (now (frequencies .entry))) (now («mean_frequencies» .entry)) ⌝ }
 {
-    let mut sorted_instants = [0i64; 64];
-    let mut sorted_frequencies = [0.0; 64];
-    let mut spare_instants = [0i64; 64];
-    let mut spare_frequencies = [0.0; 64];
+    let mut sorted_instants = [0i64; FEW_SAMPLES];
+    let mut sorted_frequencies = [0.0; FEW_SAMPLES];
+    let mut spare_instants = [0i64; FEW_SAMPLES];
+    let mut spare_frequencies = [0.0; FEW_SAMPLES];
     write_sorted(
         instants,
         frequencies,
@@ -129,7 +133,7 @@ pub(crate) fn write_means(
     if never_falls(instants) {
         return write_runs(instants, frequencies, mean_instants, mean_frequencies);
     }
-    if instants.len() <= 64 {
+    if instants.len() <= FEW_SAMPLES {
         return write_few_shuffled(instants, frequencies, mean_instants, mean_frequencies);
     }
     write_shuffled(instants, frequencies, mean_instants, mean_frequencies)

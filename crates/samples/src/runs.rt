@@ -4,7 +4,7 @@ ghost use mathlib.Core.Bool.{true};
 ghost use Prim.Native.Nat.{_≤_, _<_};
 ghost use lib.Signed.{ltZ};
 ghost use lib.ListN.{length, set};
-ghost use Rattle.checks.specs.Outcome.{written};
+ghost use Rattle.common.specs.Outcome.{written};
 ghost use Rattle.samples.specs.Means.{recording, wholeSecond, bin, meanOf, means};
 ghost use Rattle.samples.specs.Sums.{Start, Recorded, instantsOfMeans, frequenciesOfMeans};
 ghost use Rattle.samples.specs.Runs.{Reached, secondAt, NeverFalls, Begins, Run};

@@ -1,16 +1,20 @@
 // The units of the ship clock, each a type of its own with one field, so that kilometres cannot stand where metres are meant;
-// and the records of three. An ECEF coordinate is earth-centred and earth-fixed.
+// and the records of three. An ECEF coordinate is earth-centred and earth-fixed. The units have C's layout, since the exports take them.
 
 // A length in metres.
+#[repr(C)]
 pub struct Metres(pub f64);
 
 // A time in seconds.
+#[repr(C)]
 pub struct Seconds(pub f64);
 
 // A frequency in hertz.
+#[repr(C)]
 pub struct Hertz(pub f64);
 
 // An instant, or a time, as a count of nanoseconds; of an instant, since 1970-01-01 without leap seconds.
+#[repr(C)]
 pub struct Nanoseconds(pub i64);
 
 // A satellite's ECEF position, in metres.

@@ -6,7 +6,7 @@ use native.Mathlib.Nat.{le-refl}
 use lib.ListN.{length, getD, length-set}
 use lib.Ieee.{Float, nan, binary64, add, mul}
 use borrow.Author.Count.{below-none}
-use Rattle.chebyshev.proofs.Filled.{filled, filled-more, rest-kept}
+use Rattle.common.proofs.Filled.{filled, filled-more, rest-kept}
 use borrow.Author.Needs.{needs}
 use Rattle.chebyshev.proofs.coefficients.add_scaled.Statement.{statement}
 use Rattle.chebyshev.proofs.coefficients.add_scaled.Tie as tie

@@ -7,16 +7,16 @@ use lib.ListN.{length, getD, length-set}
 use lib.Ieee.{nan}
 use borrow.Author.Count.{below-none}
 use Rattle.chebyshev.specs.Recurrence.{rounded, weighted}
-use Rattle.chebyshev.proofs.Filled.{filled, filled-more}
+use Rattle.common.proofs.Filled.{filled, filled-more}
 use borrow.Author.Needs.{needs}
 use Rattle.chebyshev.proofs.coefficients.coefficients_by.Statement.{statement}
 use Rattle.chebyshev.proofs.coefficients.coefficients_by.Tie as tie
 
 abbrev Inv-loop : tie.InvT-loop
-Inv-loop inverse positions c₀ j₀ c j = (j ≤ 10) × (length c ≡ 10) × ((k : ℕ) → k < j → getD c k nan ≡ weighted rounded (getD inverse k []) positions)
+Inv-loop positions inverse c₀ j₀ c j = (j ≤ 10) × (length c ≡ 10) × ((k : ℕ) → k < j → getD c k nan ≡ weighted rounded (getD inverse k []) positions)
 
 abbrev μ-loop : tie.MeasureT-loop
-μ-loop inverse positions c₀ j₀ c j = 10 - j
+μ-loop positions inverse c₀ j₀ c j = 10 - j
 
 loop-holds : tie.Need-loop-holds Inv-loop μ-loop
 loop-holds c = (search needs, search needs, below-none _)
@@ -24,8 +24,8 @@ loop-holds c = (search needs, search needs, below-none _)
 mul-row : tie.Need-mul-row Inv-loop μ-loop
 mul-row c = search needs
 
-element-copy-out-row : tie.Need-element-copy-out-row Inv-loop μ-loop
-element-copy-out-row c = search needs
+array-copy-out-row : tie.Need-array-copy-out-row Inv-loop μ-loop
+array-copy-out-row c = search needs
 
 weighted-sum-requires : tie.Need-weighted-sum-requires Inv-loop μ-loop
 weighted-sum-requires c κs = search needs
@@ -48,14 +48,14 @@ loop-again c =
     let args = c .before .before .before .before .args in (
       search needs,
       simp length-set (search needs),
-      filled-more (λ k. weighted rounded (getD (args .inverse .now) k []) (args .positions)) nan (at .c) (at .j) _ (omega arith) (c .weighted-sum .ensures) (at .inv .2),
+      filled-more (λ k. weighted rounded (getD (args .t1) k []) (args .positions)) nan (at .c) (at .j) _ (omega arith) (c .weighted-sum .ensures) (at .inv .2),
     )
 
 returns : tie.Need-returns Inv-loop μ-loop
 returns c =
     let at = c .before .loop in
     let args = c .before .before .args in
-    filled (λ k. weighted rounded (getD (args .inverse .now) k []) (args .positions)) 10 nan (at .c) (at .inv .1) (λ k h. at .inv .2 k (omega arith))
+    filled (λ k. weighted rounded (getD (args .t1) k []) (args .positions)) 10 nan (at .c) (at .inv .1) (λ k h. at .inv .2 k (omega arith))
 
 pub coefficients-by-spec : {M : Type 1} → statement M
 coefficients-by-spec =
@@ -65,7 +65,7 @@ coefficients-by-spec =
     μ-loop
     loop-holds
     mul-row
-    element-copy-out-row
+    array-copy-out-row
     weighted-sum-requires
     mul-c
     array-write-c

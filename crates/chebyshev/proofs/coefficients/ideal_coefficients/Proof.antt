@@ -5,17 +5,18 @@ use Prim.Native.Nat.{_-_, _≤_}
 use native.Mathlib.Omega.{arith}
 use lib.ListN.{length, getD}
 use lib.Ieee.{nan, ofBits}
+use Rattle.common.specs.Outcome.{answered}
 use Rattle.chebyshev.specs.Recurrence.{rounded, weighted}
-use Rattle.chebyshev.specs.Inverse.{Matrix, inverted, inverse, rowsOf}
+use Rattle.chebyshev.specs.Inverse.{Matrix, inverted, rowsOf}
 use Rattle.chebyshev.specs.Ideal.{idealMatrix, transposed}
-use Rattle.chebyshev.proofs.Filled.{filled, length-listOf}
+use Rattle.common.proofs.Filled.{filled, length-listOf}
 use Rattle.chebyshev.proofs.Scaled.{Partial, partial-zero, partial-more, partial-end}
 use borrow.Author.Needs.{needs}
 use Rattle.chebyshev.proofs.coefficients.ideal_coefficients.Statement.{statement}
 use Rattle.chebyshev.proofs.coefficients.ideal_coefficients.Tie as tie
 
 abbrev Inv-loop : tie.InvT-loop
-Inv-loop positions columns c₀ k₀ c k = (k ≤ 10) × (length positions ≡ 10) × (length c ≡ 10) × Partial columns positions k c × (inverted idealMatrix ≡ inverse (transposed columns))
+Inv-loop positions columns c₀ k₀ c k = (k ≤ 10) × (length positions ≡ 10) × (length c ≡ 10) × Partial columns positions k c × (inverted idealMatrix ≡ answered (transposed columns))
 
 abbrev μ-loop : tie.MeasureT-loop
 μ-loop positions columns c₀ k₀ c k = 10 - k

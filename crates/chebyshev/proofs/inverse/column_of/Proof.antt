@@ -6,7 +6,7 @@ use lib.ListN.{length, getD, length-set}
 use lib.Ieee.{nan}
 use borrow.Author.Count.{below-none}
 use Rattle.chebyshev.specs.Inverse.{cell}
-use Rattle.chebyshev.proofs.Filled.{filled, filled-more}
+use Rattle.common.proofs.Filled.{filled, filled-more}
 use borrow.Author.Needs.{needs}
 use Rattle.chebyshev.proofs.inverse.column_of.Statement.{statement}
 use Rattle.chebyshev.proofs.inverse.column_of.Tie as tie

@@ -5,7 +5,7 @@ use native.Mathlib.Omega.{arith}
 use lib.ListN.{length, getD}
 use lib.Ieee.{nan}
 use Rattle.chebyshev.specs.Inverse.{cell}
-use Rattle.chebyshev.proofs.Filled.{filled}
+use Rattle.common.proofs.Filled.{filled}
 use Rattle.chebyshev.proofs.Rows.{row-more}
 use borrow.Author.Needs.{needs}
 use Rattle.chebyshev.proofs.inverse.flatten.Statement.{statement}

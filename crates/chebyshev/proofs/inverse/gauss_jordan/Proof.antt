@@ -4,8 +4,9 @@ use Prim.Native.Nat.{_≤_, _-_}
 use native.Mathlib.Omega.{arith}
 use mathlib.Core.Path.{_≡_, refl, sym, ap, _∙_}
 use lib.Ieee.{ofBits}
-use Rattle.chebyshev.specs.Lists.{listOf}
-use Rattle.chebyshev.specs.Inverse.{columnsFrom, inverted, rowsOf, refusalOf}
+use Rattle.common.specs.Outcome.{refusalIn}
+use Rattle.common.specs.Lists.{listOf}
+use Rattle.chebyshev.specs.Inverse.{columnsFrom, inverted, rowsOf}
 use Rattle.chebyshev.proofs.Columns.{columns-turn, columns-refused, columns-end}
 use borrow.Author.Needs.{needs}
 use Rattle.chebyshev.proofs.inverse.gauss_jordan.Statement.{statement}
@@ -30,7 +31,7 @@ returns c =
     let at = c .before .before .before .before .before .loop in
     let call = c .before .clear-column in
     let e = sym (columns-refused (at .i) (at .t) (at .v) (call .last .0) (call .last .1 .0) (call .result) (omega arith) (call .ensures) (c .if1 .taken)) ∙ at .inv .1 in
-    (ap rowsOf e, ap refusalOf e)
+    (ap rowsOf e, ap refusalIn e)
 
 add-i : tie.Need-add-i Inv-loop μ-loop
 add-i c = search needs
@@ -48,7 +49,7 @@ returns-2 : tie.Need-returns-2 Inv-loop μ-loop
 returns-2 c =
     let at = c .before .loop in
     let e = sym (columns-end (at .i) (at .t) (at .v) (omega arith)) ∙ at .inv .1 in
-    (ap rowsOf e, ap refusalOf e)
+    (ap rowsOf e, ap refusalIn e)
 
 pub gauss-jordan-spec : {M : Type 1} → statement M
 gauss-jordan-spec =

@@ -1,9 +1,10 @@
 -- The refusal and the rows are the outcome's, and the rows in one line are its numbers: of a refusal a hundred zeros. Assumes nothing.
 use mathlib.Core.Path.{_≡_, refl, ap, ap₂, _∙_}
 use Prim.Native.Nat.{ℕ}
+use Rattle.common.specs.Outcome.{Outcome, refused, answered, refusalIn}
 use Rattle.chebyshev.specs.declared.inverse.Inverse.{Inverse}
-use Rattle.chebyshev.specs.Lists.{listOf}
-use Rattle.chebyshev.specs.Inverse.{Row, Outcome, singular, inverse, inverted, flat, rowsOf, refusalOf, answerOf}
+use Rattle.common.specs.Lists.{listOf}
+use Rattle.chebyshev.specs.Inverse.{Row, Matrix, inverted, flat, rowsOf, answerOf}
 use borrow.Author.Needs.{needs}
 use Rattle.chebyshev.proofs.inverse.invert_matrix_10.Statement.{statement}
 use Rattle.chebyshev.proofs.inverse.invert_matrix_10.Tie as tie
@@ -17,10 +18,10 @@ flatten-requires c κs = search needs
 abbrev made : ℕ → Row → Inverse
 made n xs = record { refusal = n; numbers = xs }
 
-answer-is : (o : Outcome) → made (refusalOf o) (flat (rowsOf o)) ≡ answerOf o
+answer-is : (o : Outcome Matrix) → made (refusalIn o) (flat (rowsOf o)) ≡ answerOf o
 unfolding listOf
-answer-is singular = refl
-answer-is (inverse v) = refl
+answer-is (refused n) = refl
+answer-is (answered v) = refl
 
 returns : tie.Need-returns
 returns c =

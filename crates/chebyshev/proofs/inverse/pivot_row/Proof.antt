@@ -5,14 +5,17 @@ use mathlib.Core.Path.{_≡_, refl, _∙_, sym, ap}
 use Prim.Native.Nat.{ℕ, _≤_, _<_, _-_, _+_}
 use native.Mathlib.Omega.{arith}
 use Rattle.float.specs.Signs.{magnitudeOf}
-use Rattle.chebyshev.specs.Inverse.{cell, seek, pivotRow}
-use Rattle.chebyshev.proofs.Rows.{seek-by, seek-end}
+use Rattle.common.specs.Lists.{listOf}
+use Rattle.common.specs.Search.{firstBest}
+use Rattle.common.proofs.Search.{search-end}
+use Rattle.chebyshev.specs.Inverse.{cell, greater, pivotRow}
+use Rattle.chebyshev.proofs.Pivots.{pivot-step}
 use borrow.Author.Needs.{needs}
 use Rattle.chebyshev.proofs.inverse.pivot_row.Statement.{statement}
 use Rattle.chebyshev.proofs.inverse.pivot_row.Tie as tie
 
 abbrev Inv-loop : tie.InvT-loop
-Inv-loop m i best₀ most₀ r₀ best most r = (i < r) × (r ≤ 10) × (best < 10) × (most ≡ magnitudeOf (cell m best i)) × (seek (10 - r) i r m best ≡ pivotRow i m)
+Inv-loop m i best₀ most₀ r₀ best most r = (i < r) × (r ≤ 10) × (best < 10) × (most ≡ magnitudeOf (cell m best i)) × (firstBest (greater i m) best (listOf (λ s. s) (10 - r) r) ≡ pivotRow i m)
 
 abbrev μ-loop : tie.MeasureT-loop
 μ-loop m i best₀ most₀ r₀ best most r = 10 - r
@@ -72,8 +75,8 @@ loop-again c =
       search needs,
       omega (arith, w .1),
       w .2 ∙ mag .ensures ∙ ap (λ (k : ℕ). magnitudeOf (cell m k (args .i))) (sym (w .1)),
-      ap (λ (k : ℕ). seek (10 - (at .r + 1)) (args .i) (at .r + 1) m k) (w .1)
-          ∙ seek-by (args .i) m (at .r) (at .best) (at .most) (mag .result) true h (at .inv .3) (mag .ensures) (w .0 .taken)
+      ap (λ (k : ℕ). firstBest (greater (args .i) m) k (listOf (λ s. s) (10 - (at .r + 1)) (at .r + 1))) (w .1)
+          ∙ pivot-step (args .i) m (at .r) (at .best) (at .most) (mag .result) true h (at .inv .3) (mag .ensures) (w .0 .taken)
           ∙ at .inv .4,
     ))
     (λ w. (
@@ -81,8 +84,8 @@ loop-again c =
       search needs,
       omega (arith, w .1),
       w .2 ∙ at .inv .3 ∙ ap (λ (k : ℕ). magnitudeOf (cell m k (args .i))) (sym (w .1)),
-      ap (λ (k : ℕ). seek (10 - (at .r + 1)) (args .i) (at .r + 1) m k) (w .1)
-          ∙ seek-by (args .i) m (at .r) (at .best) (at .most) (mag .result) false h (at .inv .3) (mag .ensures) (w .0 .left)
+      ap (λ (k : ℕ). firstBest (greater (args .i) m) k (listOf (λ s. s) (10 - (at .r + 1)) (at .r + 1))) (w .1)
+          ∙ pivot-step (args .i) m (at .r) (at .best) (at .most) (mag .result) false h (at .inv .3) (mag .ensures) (w .0 .left)
           ∙ at .inv .4,
     ))
     (c .if1 .came)
@@ -91,7 +94,7 @@ returns : tie.Need-returns Inv-loop μ-loop
 returns c =
     let at = c .before .loop in
     let args = c .before .before .before .before .args in
-    (search needs, sym (seek-end (args .i) (args .m .now) (at .r) (at .best) (omega arith)) ∙ at .inv .4)
+    (search needs, sym (search-end (greater (args .i) (args .m .now)) (λ s. s) 10 (at .r) (at .best) (omega arith)) ∙ at .inv .4)
 
 pub pivot-row-spec : {M : Type 1} → statement M
 pivot-row-spec =

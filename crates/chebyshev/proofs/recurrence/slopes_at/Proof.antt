@@ -6,7 +6,7 @@ use native.Mathlib.Omega.{arith}
 use lib.ListN.{length, getD, length-set, replicate}
 use lib.Ieee.{Float, nan, binary64, ofBits, add, sub, mul}
 use Rattle.chebyshev.specs.Recurrence.{rounded, T, T′, polynomials}
-use Rattle.chebyshev.proofs.Filled.{filled, filled-more, getD-listOf}
+use Rattle.common.proofs.Filled.{filled, filled-more, getD-listOf}
 use Rattle.chebyshev.proofs.Sums.{T′-step}
 use borrow.Author.Needs.{needs}
 use Rattle.chebyshev.proofs.recurrence.slopes_at.Statement.{statement}

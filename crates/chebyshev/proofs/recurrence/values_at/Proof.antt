@@ -6,7 +6,7 @@ use native.Mathlib.Omega.{arith}
 use lib.ListN.{length, getD, length-set, replicate}
 use lib.Ieee.{Float, nan, binary64, ofBits, sub, mul}
 use Rattle.chebyshev.specs.Recurrence.{rounded, T}
-use Rattle.chebyshev.proofs.Filled.{filled, filled-more}
+use Rattle.common.proofs.Filled.{filled, filled-more}
 use Rattle.chebyshev.proofs.Sums.{T-step}
 use borrow.Author.Needs.{needs}
 use Rattle.chebyshev.proofs.recurrence.values_at.Statement.{statement}

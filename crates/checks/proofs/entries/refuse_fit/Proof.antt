@@ -1,113 +1,119 @@
--- Each return puts what the calls before it said into the list of checks, and the list computes to the number;
--- the last three checks are `refuse_values`. Assumes nothing.
-use mathlib.Core.Path.{sym, _∙_}
+-- Check after check, each by what its function said of it; in turn they give the first that fails. Assumes nothing.
+use mathlib.Core.Path.{refl, _∙_}
 use borrow.Author.Needs.{needs}
-use Rattle.checks.specs.Entries.{firstFailing}
-use Rattle.checks.proofs.Orders.{said}
+use Rattle.checks.proofs.Orders.{told}
+use Rattle.checks.proofs.First.{numbered, inTurn, in-turn, one-more}
 use Rattle.checks.proofs.entries.refuse_fit.Statement.{statement}
 use Rattle.checks.proofs.entries.refuse_fit.Tie as tie
 
 miscounted-requires : tie.Need-miscounted-requires
 miscounted-requires c κs = search needs
 
-returns : tie.Need-returns
-unfolding firstFailing
-returns c = rw (sym (c .before .miscounted .ensures) ∙ c .if1 .taken)
+or-else-requires : tie.Need-or-else-requires
+or-else-requires c κs = search needs
 
 unsampled-requires : tie.Need-unsampled-requires
 unsampled-requires c κs = search needs
 
-returns-2 : tie.Need-returns-2
-unfolding firstFailing
-returns-2 c =
-    let e1 = c .before .before in
-    rw (
-      sym (e1 .before .miscounted .ensures) ∙ e1 .if1 .left,
-      sym (c .before .unsampled .ensures) ∙ c .if2 .taken,
-    )
+or-else-requires-2 : tie.Need-or-else-requires-2
+or-else-requires-2 c κs = search needs
 
 any-beyond-requires : tie.Need-any-beyond-requires
 any-beyond-requires c κs = search needs
 
-returns-3 : tie.Need-returns-3
-unfolding firstFailing
-returns-3 c =
-    let e2 = c .before .before in
-    let e1 = e2 .before .before in
-    rw (
-      sym (e1 .before .miscounted .ensures) ∙ e1 .if1 .left,
-      sym (e2 .before .unsampled .ensures) ∙ e2 .if2 .left,
-      sym (c .before .any-beyond .ensures) ∙ c .if3 .taken,
-    )
+or-else-requires-3 : tie.Need-or-else-requires-3
+or-else-requires-3 c κs = search needs
 
 any-beyond-requires-2 : tie.Need-any-beyond-requires-2
 any-beyond-requires-2 c κs = search needs
 
-returns-4 : tie.Need-returns-4
-unfolding firstFailing
-returns-4 c =
-    let e3 = c .before .before in
-    let e2 = e3 .before .before in
-    let e1 = e2 .before .before in
-    rw (
-      sym (e1 .before .miscounted .ensures) ∙ e1 .if1 .left,
-      sym (e2 .before .unsampled .ensures) ∙ e2 .if2 .left,
-      sym (e3 .before .any-beyond .ensures) ∙ e3 .if3 .left,
-      sym (c .before .any-beyond2 .ensures) ∙ c .if4 .taken,
-    )
+or-else-requires-4 : tie.Need-or-else-requires-4
+or-else-requires-4 c κs = search needs
 
 beyond-requires : tie.Need-beyond-requires
 beyond-requires c κs = search needs
 
-returns-5 : tie.Need-returns-5
-unfolding firstFailing
-returns-5 c =
-    let e4 = c .before .before in
-    let e3 = e4 .before .before in
-    let e2 = e3 .before .before in
-    let e1 = e2 .before .before in
-    let at = e1 .before .before in
-    rw (
-      sym (e1 .before .miscounted .ensures) ∙ e1 .if1 .left,
-      sym (e2 .before .unsampled .ensures) ∙ e2 .if2 .left,
-      sym (e3 .before .any-beyond .ensures) ∙ e3 .if3 .left,
-      sym (e4 .before .any-beyond2 .ensures) ∙ e4 .if4 .left,
-      said (at .before .before .before .args .measured .0) (record { sfits = at .struct-told .given .0 .1 }) (c .before .beyond .ensures) (c .if5 .taken),
-    )
+or-else-requires-5 : tie.Need-or-else-requires-5
+or-else-requires-5 c κs = search needs
 
-refuse-values-requires : tie.Need-refuse-values-requires
-refuse-values-requires c κs = search needs
+unrising-requires : tie.Need-unrising-requires
+unrising-requires c κs = search needs
 
-returns-6 : tie.Need-returns-6
-unfolding firstFailing
-returns-6 c =
-    let e5 = c .before in
-    let e4 = e5 .before .before in
-    let e3 = e4 .before .before in
-    let e2 = e3 .before .before in
-    let e1 = e2 .before .before in
-    let at = e1 .before .before in
-    rw (
-      sym (e1 .before .miscounted .ensures) ∙ e1 .if1 .left,
-      sym (e2 .before .unsampled .ensures) ∙ e2 .if2 .left,
-      sym (e3 .before .any-beyond .ensures) ∙ e3 .if3 .left,
-      sym (e4 .before .any-beyond2 .ensures) ∙ e4 .if4 .left,
-      said (at .before .before .before .args .measured .0) (record { sfits = at .struct-told .given .0 .1 }) (e5 .before .beyond .ensures) (e5 .if5 .left),
-    ) (c .refuse-values .ensures)
+or-else-requires-6 : tie.Need-or-else-requires-6
+or-else-requires-6 c κs = search needs
+
+any-misplaced-requires : tie.Need-any-misplaced-requires
+any-misplaced-requires c κs = search needs
+
+or-else-requires-7 : tie.Need-or-else-requires-7
+or-else-requires-7 c κs = search needs
+
+misplaced-requires : tie.Need-misplaced-requires
+misplaced-requires c κs = search needs
+
+or-else-requires-8 : tie.Need-or-else-requires-8
+or-else-requires-8 c κs = search needs
+
+any-not-finite-requires : tie.Need-any-not-finite-requires
+any-not-finite-requires c κs = search needs
+
+or-else-requires-9 : tie.Need-or-else-requires-9
+or-else-requires-9 c κs = search needs
+
+no-centre-requires : tie.Need-no-centre-requires
+no-centre-requires c κs = search needs
+
+or-else-requires-10 : tie.Need-or-else-requires-10
+or-else-requires-10 c κs = search needs
+
+returns : tie.Need-returns
+unfolding inTurn numbered
+returns c =
+    let s10 = c in
+    let s9 = s10 .before .before in
+    let s8 = s9 .before .before in
+    let s7 = s8 .before .before in
+    let s6 = s7 .before .before in
+    let s5 = s6 .before .before in
+    let s4 = s5 .before .before .before in
+    let s3 = s4 .before .before in
+    let s2 = s3 .before .before in
+    let s1 = s2 .before .before in
+    let at = s5 .before .before in
+    let e1 = one-more 1 {r = 0} refl (s1 .or-else .ensures) (s1 .before .miscounted .ensures) in
+    let e2 = one-more 2 e1 (s2 .or-else2 .ensures) (s2 .before .unsampled .ensures) in
+    let e3 = one-more 4 e2 (s3 .or-else3 .ensures) (s3 .before .any-beyond .ensures) in
+    let e4 = one-more 4 e3 (s4 .or-else4 .ensures) (s4 .before .any-beyond2 .ensures) in
+    let e5 = one-more 4 e4 (s5 .or-else5 .ensures) (told (at .before .before .before .before .before .before .before .before .before .before .before .args .measured .0) (record { sfits = at .struct-told .given .0 .1 }) (s5 .before .beyond .ensures)) in
+    let e6 = one-more 5 e5 (s6 .or-else6 .ensures) (s6 .before .unrising .ensures) in
+    let e7 = one-more 6 e6 (s7 .or-else7 .ensures) (s7 .before .any-misplaced .ensures) in
+    let e8 = one-more 6 e7 (s8 .or-else8 .ensures) (s8 .before .misplaced .ensures) in
+    let e9 = one-more 7 e8 (s9 .or-else9 .ensures) (s9 .before .any-not-finite .ensures) in
+    let e10 = one-more 7 e9 (s10 .or-else10 .ensures) (s10 .before .no-centre .ensures) in
+    e10 ∙ in-turn _ tt
 
 pub refuse-fit-spec : {M : Type 1} → statement M
 refuse-fit-spec =
     tie.close
     (tie.spec
     miscounted-requires
-    returns
+    or-else-requires
     unsampled-requires
-    returns-2
+    or-else-requires-2
     any-beyond-requires
-    returns-3
+    or-else-requires-3
     any-beyond-requires-2
-    returns-4
+    or-else-requires-4
     beyond-requires
-    returns-5
-    refuse-values-requires
-    returns-6)
+    or-else-requires-5
+    unrising-requires
+    or-else-requires-6
+    any-misplaced-requires
+    or-else-requires-7
+    misplaced-requires
+    or-else-requires-8
+    any-not-finite-requires
+    or-else-requires-9
+    no-centre-requires
+    or-else-requires-10
+    returns)

@@ -1,62 +1,47 @@
--- Each return puts what the calls before it said into the list of checks, and the list computes to the number. Assumes nothing.
-use mathlib.Core.Path.{sym, _∙_}
+-- Check after check, each by what its function said of it; in turn they give the first that fails. Assumes nothing.
+use mathlib.Core.Path.{refl, _∙_}
 use borrow.Author.Needs.{needs}
-use Rattle.checks.specs.Entries.{firstFailing}
+use Rattle.checks.proofs.First.{numbered, inTurn, in-turn, one-more}
 use Rattle.checks.proofs.entries.refuse_means.Statement.{statement}
 use Rattle.checks.proofs.entries.refuse_means.Tie as tie
 
 unsampled-requires : tie.Need-unsampled-requires
 unsampled-requires c κs = search needs
 
-returns : tie.Need-returns
-unfolding firstFailing
-returns c = rw (sym (c .before .unsampled .ensures) ∙ c .if1 .taken)
+or-else-requires : tie.Need-or-else-requires
+or-else-requires c κs = search needs
 
 too-short-requires : tie.Need-too-short-requires
 too-short-requires c κs = search needs
 
-returns-2 : tie.Need-returns-2
-unfolding firstFailing
-returns-2 c =
-    let e1 = c .before .before in
-    rw (
-      sym (e1 .before .unsampled .ensures) ∙ e1 .if1 .left,
-      sym (c .before .too-short .ensures) ∙ c .if2 .taken,
-    )
+or-else-requires-2 : tie.Need-or-else-requires-2
+or-else-requires-2 c κs = search needs
 
 any-beyond-requires : tie.Need-any-beyond-requires
 any-beyond-requires c κs = search needs
 
-returns-3 : tie.Need-returns-3
-unfolding firstFailing
-returns-3 c =
-    let e2 = c .before .before in
-    let e1 = e2 .before .before in
-    rw (
-      sym (e1 .before .unsampled .ensures) ∙ e1 .if1 .left,
-      sym (e2 .before .too-short .ensures) ∙ e2 .if2 .left,
-      sym (c .before .any-beyond .ensures) ∙ c .if3 .taken,
-    )
+or-else-requires-3 : tie.Need-or-else-requires-3
+or-else-requires-3 c κs = search needs
 
-returns-4 : tie.Need-returns-4
-unfolding firstFailing
-returns-4 c =
-    let e2 = c .before .before in
-    let e1 = e2 .before .before in
-    rw (
-      sym (e1 .before .unsampled .ensures) ∙ e1 .if1 .left,
-      sym (e2 .before .too-short .ensures) ∙ e2 .if2 .left,
-      sym (c .before .any-beyond .ensures) ∙ c .if3 .left,
-    )
+returns : tie.Need-returns
+unfolding inTurn numbered
+returns c =
+    let s3 = c in
+    let s2 = s3 .before .before in
+    let s1 = s2 .before .before in
+    let e1 = one-more 2 {r = 0} refl (s1 .or-else .ensures) (s1 .before .unsampled .ensures) in
+    let e2 = one-more 3 e1 (s2 .or-else2 .ensures) (s2 .before .too-short .ensures) in
+    let e3 = one-more 4 e2 (s3 .or-else3 .ensures) (s3 .before .any-beyond .ensures) in
+    e3 ∙ in-turn _ tt
 
 pub refuse-means-spec : {M : Type 1} → statement M
 refuse-means-spec =
     tie.close
     (tie.spec
     unsampled-requires
-    returns
+    or-else-requires
     too-short-requires
-    returns-2
+    or-else-requires-2
     any-beyond-requires
-    returns-3
-    returns-4)
+    or-else-requires-3
+    returns)

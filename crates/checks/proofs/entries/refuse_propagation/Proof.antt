@@ -1,109 +1,69 @@
--- Each return puts what the calls before it said into the list of checks, and the list computes to the number. Assumes nothing.
-use mathlib.Core.Path.{sym, _∙_}
+-- Check after check, each by what its function said of it; in turn they give the first that fails. Assumes nothing.
+use mathlib.Core.Path.{refl, _∙_}
 use borrow.Author.Needs.{needs}
-use Rattle.checks.specs.Entries.{firstFailing}
-use Rattle.checks.proofs.Orders.{said}
+use Rattle.checks.proofs.Orders.{told}
+use Rattle.checks.proofs.First.{numbered, inTurn, in-turn, one-more}
 use Rattle.checks.proofs.entries.refuse_propagation.Statement.{statement}
 use Rattle.checks.proofs.entries.refuse_propagation.Tie as tie
 
 miscounted-requires : tie.Need-miscounted-requires
 miscounted-requires c κs = search needs
 
-returns : tie.Need-returns
-unfolding firstFailing
-returns c = rw (sym (c .before .miscounted .ensures) ∙ c .if1 .taken)
+or-else-requires : tie.Need-or-else-requires
+or-else-requires c κs = search needs
 
 any-beyond-requires : tie.Need-any-beyond-requires
 any-beyond-requires c κs = search needs
 
-returns-2 : tie.Need-returns-2
-unfolding firstFailing
-returns-2 c =
-    let e1 = c .before .before in
-    rw (
-      sym (e1 .before .miscounted .ensures) ∙ e1 .if1 .left,
-      sym (c .before .any-beyond .ensures) ∙ c .if2 .taken,
-    )
+or-else-requires-2 : tie.Need-or-else-requires-2
+or-else-requires-2 c κs = search needs
 
 beyond-requires : tie.Need-beyond-requires
 beyond-requires c κs = search needs
 
-returns-3 : tie.Need-returns-3
-unfolding firstFailing
-returns-3 c =
-    let e2 = c .before .before in
-    let e1 = e2 .before .before in
-    let at = e1 .before .before in
-    rw (
-      sym (e1 .before .miscounted .ensures) ∙ e1 .if1 .left,
-      sym (e2 .before .any-beyond .ensures) ∙ e2 .if2 .left,
-      said (at .before .before .args .instant .0) (record { sfits = at .struct-told .given .0 .1 }) (c .before .beyond .ensures) (c .if3 .taken),
-    )
+or-else-requires-3 : tie.Need-or-else-requires-3
+or-else-requires-3 c κs = search needs
 
 unrising-requires : tie.Need-unrising-requires
 unrising-requires c κs = search needs
 
-returns-4 : tie.Need-returns-4
-unfolding firstFailing
-returns-4 c =
-    let e3 = c .before .before in
-    let e2 = e3 .before .before in
-    let e1 = e2 .before .before in
-    let at = e1 .before .before in
-    rw (
-      sym (e1 .before .miscounted .ensures) ∙ e1 .if1 .left,
-      sym (e2 .before .any-beyond .ensures) ∙ e2 .if2 .left,
-      said (at .before .before .args .instant .0) (record { sfits = at .struct-told .given .0 .1 }) (e3 .before .beyond .ensures) (e3 .if3 .left),
-      sym (c .before .unrising .ensures) ∙ c .if4 .taken,
-    )
+or-else-requires-4 : tie.Need-or-else-requires-4
+or-else-requires-4 c κs = search needs
 
 any-misplaced-requires : tie.Need-any-misplaced-requires
 any-misplaced-requires c κs = search needs
 
-returns-5 : tie.Need-returns-5
-unfolding firstFailing
-returns-5 c =
-    let e4 = c .before .before in
-    let e3 = e4 .before .before in
-    let e2 = e3 .before .before in
-    let e1 = e2 .before .before in
-    let at = e1 .before .before in
-    rw (
-      sym (e1 .before .miscounted .ensures) ∙ e1 .if1 .left,
-      sym (e2 .before .any-beyond .ensures) ∙ e2 .if2 .left,
-      said (at .before .before .args .instant .0) (record { sfits = at .struct-told .given .0 .1 }) (e3 .before .beyond .ensures) (e3 .if3 .left),
-      sym (e4 .before .unrising .ensures) ∙ e4 .if4 .left,
-      sym (c .before .any-misplaced .ensures) ∙ c .if5 .taken,
-    )
+or-else-requires-5 : tie.Need-or-else-requires-5
+or-else-requires-5 c κs = search needs
 
-returns-6 : tie.Need-returns-6
-unfolding firstFailing
-returns-6 c =
-    let e4 = c .before .before in
-    let e3 = e4 .before .before in
-    let e2 = e3 .before .before in
-    let e1 = e2 .before .before in
-    let at = e1 .before .before in
-    rw (
-      sym (e1 .before .miscounted .ensures) ∙ e1 .if1 .left,
-      sym (e2 .before .any-beyond .ensures) ∙ e2 .if2 .left,
-      said (at .before .before .args .instant .0) (record { sfits = at .struct-told .given .0 .1 }) (e3 .before .beyond .ensures) (e3 .if3 .left),
-      sym (e4 .before .unrising .ensures) ∙ e4 .if4 .left,
-      sym (c .before .any-misplaced .ensures) ∙ c .if5 .left,
-    )
+returns : tie.Need-returns
+unfolding inTurn numbered
+returns c =
+    let s5 = c in
+    let s4 = s5 .before .before in
+    let s3 = s4 .before .before in
+    let s2 = s3 .before .before .before in
+    let s1 = s2 .before .before in
+    let at = s3 .before .before in
+    let e1 = one-more 1 {r = 0} refl (s1 .or-else .ensures) (s1 .before .miscounted .ensures) in
+    let e2 = one-more 4 e1 (s2 .or-else2 .ensures) (s2 .before .any-beyond .ensures) in
+    let e3 = one-more 4 e2 (s3 .or-else3 .ensures) (told (at .before .before .before .before .before .before .args .instant .0) (record { sfits = at .struct-told .given .0 .1 }) (s3 .before .beyond .ensures)) in
+    let e4 = one-more 5 e3 (s4 .or-else4 .ensures) (s4 .before .unrising .ensures) in
+    let e5 = one-more 6 e4 (s5 .or-else5 .ensures) (s5 .before .any-misplaced .ensures) in
+    e5 ∙ in-turn _ tt
 
 pub refuse-propagation-spec : {M : Type 1} → statement M
 refuse-propagation-spec =
     tie.close
     (tie.spec
     miscounted-requires
-    returns
+    or-else-requires
     any-beyond-requires
-    returns-2
+    or-else-requires-2
     beyond-requires
-    returns-3
+    or-else-requires-3
     unrising-requires
-    returns-4
+    or-else-requires-4
     any-misplaced-requires
-    returns-5
-    returns-6)
+    or-else-requires-5
+    returns)

@@ -5,15 +5,15 @@ use lib.Ieee.{ofBits}
 use Rattle.checks.proofs.numbers.no_centre.Statement.{statement}
 use Rattle.checks.proofs.numbers.no_centre.Tie as tie
 
-infinite-requires : tie.Need-infinite-requires
-infinite-requires c κs = search needs
+not-finite-requires : tie.Need-not-finite-requires
+not-finite-requires c κs = search needs
 
 returns : tie.Need-returns
-returns c = rw (sym (c .before .infinite .ensures) ∙ c .if1 .taken)
+returns c = rw (sym (c .before .not-finite .ensures) ∙ c .if1 .taken)
 
 returns-2 : tie.Need-returns-2
 unfolding ofBits
-returns-2 c = rw (sym (c .before .infinite .ensures) ∙ c .if1 .left)
+returns-2 c = rw (sym (c .before .not-finite .ensures) ∙ c .if1 .left)
 
 pub no-centre-spec : {M : Type 1} → statement M
-no-centre-spec = tie.close (tie.spec infinite-requires returns returns-2)
+no-centre-spec = tie.close (tie.spec not-finite-requires returns returns-2)

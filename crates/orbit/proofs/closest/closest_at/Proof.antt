@@ -7,11 +7,12 @@ use native.Mathlib.Nat.{le-trans}
 use lib.IntN.{ℤ, pos, negsuc, natAbs, _+ℤ_, _-ℤ_}
 use lib.Ieee.{ofBits}
 use mir.Syntax.{w64}
-use mir.Val.{SFits, toZ, ofZ}
+use mir.Val.{SFits}
 use mir.ValLaws.{toZ-ofZ}
 use Rattle.orbit.specs.declared.closest.Nearest.{Nearest}
-use Rattle.orbit.specs.Closest.{movedBySeconds, seekNearest, byMinutes, bySeconds}
-use Rattle.float.specs.Numbers.{largestFinite}
+use Rattle.common.specs.Lists.{listOf}
+use Rattle.common.specs.Search.{firstBest}
+use Rattle.orbit.specs.Closest.{movedBySeconds, nearer, centred, rangedAt, byMinutes, bySeconds}
 use Rattle.orbit.proofs.Offsets.{back, small-fits, before-small}
 use Rattle.orbit.proofs.Ranges.{minutes-small, seconds-small}
 use Rattle.orbit.proofs.closest.closest_at.Statement.{statement}
@@ -30,7 +31,7 @@ minutes-are c =
     let s = c .before .before in
     let a = s .args in
     c .seek-nearest .ensures
-    ∙ ap (λ (x : ℤ). seekNearest (a .tolerance) (a .instants .now) (a .positions .now) (a .observer) x 101 0 (negsuc 2999) 60 (record { range = largestFinite; offset = pos 0 })) (toZ-ofZ w64 (a .around) (s .fits .around))
+    ∙ ap (λ (x : ℤ). firstBest nearer (centred (pos 0)) (listOf (rangedAt (a .tolerance) (a .instants .now) (a .positions .now) (a .observer) x (negsuc 2999) 60) 101 0)) (toZ-ofZ w64 (a .around) (s .fits .around))
 
 centre-small : (c : tie.After-seek-nearest) → natAbs (c .seek-nearest .result .offset) ≤ 9060
 centre-small c = subst (λ (n : Nearest). natAbs (n .offset) ≤ 9060) (sym (minutes-are c)) (let s = c .before .before in minutes-small (s .args .tolerance) (s .args .instants .now) (s .args .positions .now) (s .args .observer) (s .args .around))
@@ -58,10 +59,11 @@ seconds-are c =
     let at = c .before .before in
     let s = at .before .before in
     let a = s .args in
+    let stage : ℤ → ℤ → ℤ → Nearest = λ x y centre. firstBest nearer (centred centre) (listOf (rangedAt (a .tolerance) (a .instants .now) (a .positions .now) (a .observer) x y 1) 121 0) in
     c .seek-nearest2 .ensures
-    ∙ ap₂ (λ (x : ℤ) (y : ℤ). seekNearest (a .tolerance) (a .instants .now) (a .positions .now) (a .observer) x 121 0 y 1 (record { range = largestFinite; offset = back (at .seek-nearest .result .offset) })) (toZ-ofZ w64 (a .around) (s .fits .around)) (first-is at)
-    ∙ ap (λ (z : ℤ). seekNearest (a .tolerance) (a .instants .now) (a .positions .now) (a .observer) (a .around) 121 0 (first-of at) 1 (record { range = largestFinite; offset = z })) (centre-is at)
-    ∙ ap (λ (n : Nearest). seekNearest (a .tolerance) (a .instants .now) (a .positions .now) (a .observer) (a .around) 121 0 (n .offset +ℤ negsuc 59) 1 (record { range = largestFinite; offset = n .offset })) (minutes-are at)
+    ∙ ap₂ (λ (x : ℤ) (y : ℤ). stage x y (back (at .seek-nearest .result .offset))) (toZ-ofZ w64 (a .around) (s .fits .around)) (first-is at)
+    ∙ ap (stage (a .around) (first-of at)) (centre-is at)
+    ∙ ap (λ (n : Nearest). stage (a .around) (n .offset +ℤ negsuc 59) (n .offset)) (minutes-are at)
 
 found-small : (c : tie.After-seek-nearest2) → natAbs (c .seek-nearest2 .result .offset) ≤ 10000
 found-small c = subst (λ (n : Nearest). natAbs (n .offset) ≤ 10000) (sym (seconds-are c)) (let s = c .before .before .before .before in seconds-small (s .args .tolerance) (s .args .instants .now) (s .args .positions .now) (s .args .observer) (s .args .around))

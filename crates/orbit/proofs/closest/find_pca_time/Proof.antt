@@ -5,10 +5,10 @@ use lib.IntN.{ℤ, natAbs}
 use lib.Ieee.{ofBits}
 use mir.Syntax.{w64}
 use mir.ValLaws.{toZ-ofZ}
-use Rattle.checks.specs.Outcome.{answered}
+use Rattle.common.specs.Outcome.{answered}
 use Rattle.checks.specs.Entries.{firstFailing, closestChecks}
 use Rattle.checks.proofs.Passed.{closest-table, closest-near}
-use Rattle.checks.proofs.Outcomes.{outcome-refused, outcome-answered}
+use Rattle.common.proofs.Outcomes.{outcome-refused, outcome-answered}
 use Rattle.orbit.specs.Window.{evenTolerance}
 use Rattle.orbit.specs.Closest.{closestInstant}
 use Rattle.orbit.proofs.Offsets.{near-is}

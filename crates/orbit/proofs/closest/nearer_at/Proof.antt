@@ -3,7 +3,7 @@ use mathlib.Core.Path.{_≡_, ap, ap₂, _∙_}
 use mir.Syntax.{w64}
 use mir.Val.{toZ, ofZ}
 use mir.ValLaws.{toZ-ofZ}
-use Rattle.checks.specs.Outcome.{Outcome}
+use Rattle.common.specs.Outcome.{Outcome}
 use Rattle.orbit.specs.Propagation.{Motion, motionIn, propagated}
 use Rattle.orbit.specs.Closest.{movedBySeconds}
 use Rattle.orbit.proofs.Ranges.{nearer-refused, nearer-won, nearer-lost}

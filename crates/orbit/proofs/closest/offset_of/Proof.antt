@@ -4,7 +4,7 @@ use Prim.Native.Nat.{_*_}
 use native.Mathlib.Omega.{arith}
 use lib.IntN.{pos, _+ℤ_}
 use mir.Syntax.{w64}
-use mir.Val.{SFits, toZ, ofZ}
+use mir.Val.{SFits, toZ}
 use mir.ValLaws.{toZ-ofZ, toZ-pos}
 use Rattle.orbit.proofs.Offsets.{back, offset-fits}
 use borrow.Author.Needs.{needs}

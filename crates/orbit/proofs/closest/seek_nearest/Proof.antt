@@ -7,17 +7,20 @@ use lib.IntN.{ℤ, pos, natAbs, _+ℤ_}
 use mir.Syntax.{w64}
 use mir.Val.{toZ, ofZ}
 use mir.ValLaws.{toZ-ofZ}
-use Rattle.orbit.specs.Propagation.{propagated}
-use Rattle.orbit.specs.Closest.{movedBySeconds, nearer, seekNearest}
+use Rattle.common.specs.Lists.{listOf}
+use Rattle.common.specs.Search.{betterOf, firstBest}
+use Rattle.common.proofs.Search.{search-step, search-end}
+use Rattle.orbit.specs.declared.closest.Nearest.{Nearest}
+use Rattle.orbit.specs.Closest.{nearer, ranged, rangedAt}
 use Rattle.orbit.proofs.Offsets.{offset-small}
-use Rattle.orbit.proofs.Ranges.{seek-step, seek-end}
 use borrow.Author.Needs.{needs}
 use Rattle.orbit.proofs.closest.seek_nearest.Statement.{statement}
 use Rattle.orbit.proofs.closest.seek_nearest.Tie as tie
 
 abbrev Inv-loop : tie.InvT-loop
 Inv-loop instants positions observer around first step count tolerance best₀ k₀ best k =
-    (k ≤ count) × (seekNearest tolerance instants positions observer (toZ w64 around) (count - k) k (toZ w64 first) step best ≡ seekNearest tolerance instants positions observer (toZ w64 around) count 0 (toZ w64 first) step best₀)
+    let at = rangedAt tolerance instants positions observer (toZ w64 around) (toZ w64 first) step in
+    (k ≤ count) × (firstBest nearer best (listOf at (count - k) k) ≡ firstBest nearer best₀ (listOf at count 0))
 
 abbrev μ-loop : tie.MeasureT-loop
 μ-loop instants positions observer around first step count tolerance best₀ k₀ best k = count - k
@@ -65,9 +68,9 @@ loop-again c =
     let around = toZ w64 (ofZ w64 (a .around)) in
     let offset = c .before .offset-of in
     let e : toZ w64 (ofZ w64 (offset .result)) ≡ first +ℤ pos (a .step * at .k) = toZ-ofZ w64 (offset .result) (record { sfits = offset .ok }) ∙ offset .ensures in
-    let turned : c .nearer-at .result ≡ nearer (a .observer) (propagated (a .tolerance) (a .instants .now) (a .positions .now) (movedBySeconds around (first +ℤ pos (a .step * at .k)))) (first +ℤ pos (a .step * at .k)) (at .best) =
-    c .nearer-at .ensures ∙ ap (λ (z : ℤ). nearer (a .observer) (propagated (a .tolerance) (a .instants .now) (a .positions .now) (movedBySeconds around z)) z (at .best)) e in
-    (search needs, rw turned (seek-step (a .tolerance) (a .instants .now) (a .positions .now) (a .observer) around (a .count) (at .k) first (a .step) (at .best) (omega arith) ∙ at .inv .1))
+    let ranges = rangedAt (a .tolerance) (a .instants .now) (a .positions .now) (a .observer) around first (a .step) in
+    let turned : c .nearer-at .result ≡ betterOf nearer (at .best) (ranges (at .k)) = c .nearer-at .ensures ∙ ap (λ (z : ℤ). betterOf nearer (at .best) (ranged (a .tolerance) (a .instants .now) (a .positions .now) (a .observer) around z)) e in
+    (search needs, rw turned (search-step nearer ranges (a .count) (at .k) (at .best) (omega arith) ∙ at .inv .1))
 
 returns : tie.Need-returns Inv-loop μ-loop
 returns c =
@@ -76,9 +79,10 @@ returns c =
     let at = c .before .loop in
     let first = toZ w64 (ofZ w64 (a .first)) in
     let around = toZ w64 (ofZ w64 (a .around)) in
-    sym (seek-end (a .tolerance) (a .instants .now) (a .positions .now) (a .observer) around (a .count) (at .k) first (a .step) (at .best) (omega arith))
+    let ranges : ℤ → ℤ → ℕ → Nearest = λ x y. rangedAt (a .tolerance) (a .instants .now) (a .positions .now) (a .observer) x y (a .step) in
+    sym (search-end nearer (ranges around first) (a .count) (at .k) (at .best) (omega arith))
     ∙ at .inv .1
-    ∙ ap₂ (λ (x : ℤ) (y : ℤ). seekNearest (a .tolerance) (a .instants .now) (a .positions .now) (a .observer) x (a .count) 0 y (a .step) (a .start)) (toZ-ofZ w64 (a .around) (s .fits .around)) (toZ-ofZ w64 (a .first) (s .fits .first))
+    ∙ ap₂ (λ (x : ℤ) (y : ℤ). firstBest nearer (a .start) (listOf (ranges x y) (a .count) 0)) (toZ-ofZ w64 (a .around) (s .fits .around)) (toZ-ofZ w64 (a .first) (s .fits .first))
 
 pub seek-nearest-spec : {M : Type 1} → statement M
 seek-nearest-spec =

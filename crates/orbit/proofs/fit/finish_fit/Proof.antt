@@ -1,6 +1,6 @@
 -- Where the least so far is not below the largest finite double it is refused by 10; else the two stages run from it. Assumes nothing.
 use mathlib.Core.Path.{_≡_, sym, ap, _∙_, subst}
-use mathlib.Core.Bool.{Bool, true, false, cond}
+use mathlib.Core.Bool.{Bool, cond}
 use mathlib.Core.List.{map}
 use native.Mathlib.Omega.{arith}
 use borrow.Author.Tests.{not-true, not-false}
@@ -9,9 +9,9 @@ use lib.Ieee.{Float, binary64, sub, lt, ofBits}
 use Rattle.float.specs.Signs.{Within}
 use Rattle.float.proofs.Bounds.{sub-within}
 use Rattle.samples.specs.Means.{recording}
-use Rattle.checks.specs.Outcome.{refused, answered}
+use Rattle.common.specs.Outcome.{refused, answered}
 use Rattle.orbit.specs.declared.stages.LeastSoFar.{LeastSoFar}
-use Rattle.float.specs.Numbers.{largestFinite}
+use Rattle.common.specs.Numbers.{largestFinite}
 use Rattle.orbit.specs.Fit.{Trial, trial, twentieth, thousandth, shiftsFrom, fine, micro}
 use Rattle.orbit.specs.Residuals.{inputsOf, residualOf}
 use Rattle.orbit.specs.Stages.{updates, stageFrom, reportFrom}

@@ -4,10 +4,10 @@ use Prim.Native.Nat.{ℕ, _≤_}
 use lib.IntN.{ℤ, natAbs}
 use lib.Ieee.{ofBits}
 use Rattle.samples.specs.Means.{recording}
-use Rattle.checks.specs.Outcome.{Outcome}
+use Rattle.common.specs.Outcome.{Outcome}
 use Rattle.checks.specs.Entries.{firstFailing, fitChecks}
 use Rattle.checks.proofs.Passed.{fit-table, fit-samples, fit-near}
-use Rattle.checks.proofs.Outcomes.{unless-refused, unless-none}
+use Rattle.common.proofs.Outcomes.{unless-refused, unless-none}
 use Rattle.orbit.specs.declared.fit.Report.{Report}
 use Rattle.orbit.specs.Window.{evenTolerance}
 use Rattle.orbit.specs.Fit.{fitted}

@@ -3,7 +3,7 @@ use mathlib.Core.Path.{_≡_, sym, ap, _∙_, subst}
 use Prim.Native.Nat.{ℕ, _/_, _≤_}
 use lib.IntN.{ℤ, pos, natAbs}
 use lib.ListN.{length, getD}
-use Rattle.checks.specs.Outcome.{unlessRefused}
+use Rattle.common.specs.Outcome.{unlessRefused}
 use Rattle.checks.proofs.Passed.{samples-pass}
 use Rattle.samples.specs.Approach.{approachOf, approachIn}
 use Rattle.orbit.specs.Passes.{approachOr, middleOf, measuredBy}

@@ -1,16 +1,16 @@
 -- The checks of a pass hold those of the means, so these are written; the fit runs on the front of the two areas, which holds them. Assumes nothing.
 use mathlib.Core.Path.{_≡_, refl, sym, ap, ap₂, _∙_, subst}
-use mathlib.Core.List.{List, map}
+use mathlib.Core.List.{List}
 use Prim.Native.Nat.{ℕ, _≤_}
 use native.Mathlib.Nat.{le-trans, le-of-eq}
 use native.Mathlib.Omega.{arith}
 use lib.IntN.{ℤ}
 use lib.ListN.{length, take, length-map}
 use lib.Ieee.{Float, ofBits}
-use Rattle.checks.specs.Outcome.{refused, answered, outcome, area, written}
+use Rattle.common.specs.Outcome.{answered, outcome, area, written}
 use Rattle.checks.proofs.Passed.{pass-table, pass-samples, pass-areas, means-pass}
 use Rattle.checks.specs.Passed.{Samples}
-use Rattle.checks.proofs.Outcomes.{unless-refused, unless-none, area-refused}
+use Rattle.common.proofs.Outcomes.{unless-refused, unless-none, area-refused}
 use Rattle.samples.specs.Means.{Sample, recording, means, instants, frequencies, meansRefusal, countOf}
 use Rattle.samples.proofs.Seconds.{few-means}
 use Rattle.samples.proofs.Recordings.{record-length}

@@ -1,10 +1,10 @@
 -- A refused instant gives its number, any other its motion. Assumes nothing.
 use mathlib.Core.Path.{sym, ap, _∙_}
 use lib.IntN.{ℤ}
-use Rattle.checks.specs.Outcome.{answered}
+use Rattle.common.specs.Outcome.{answered}
 use Rattle.checks.specs.Entries.{firstFailing, evaluationChecks}
 use Rattle.checks.proofs.Passed.{evaluation-near}
-use Rattle.checks.proofs.Outcomes.{outcome-refused, outcome-answered}
+use Rattle.common.proofs.Outcomes.{outcome-refused, outcome-answered}
 use Rattle.orbit.specs.Propagation.{motionAt}
 use Rattle.orbit.proofs.Offsets.{near-is}
 use borrow.Author.Needs.{needs}

@@ -4,10 +4,10 @@ use Prim.Native.Nat.{ℕ}
 use lib.IntN.{ℤ}
 use mir.Syntax.{w64}
 use mir.ValLaws.{toZ-ofZ}
-use Rattle.checks.specs.Outcome.{answered}
+use Rattle.common.specs.Outcome.{answered}
 use Rattle.orbit.specs.Window.{windowStart, windowSeconds, inversionOf, modelAt, modelAnswer}
 use Rattle.orbit.specs.Propagation.{motionAt}
-use Rattle.orbit.proofs.Models.{propagation-refused, propagation-answered}
+use Rattle.orbit.proofs.Models.{inversion-told, propagation-refused, propagation-answered}
 use borrow.Author.Needs.{needs}
 use Rattle.orbit.proofs.propagation.propagate_at.Statement.{statement}
 use Rattle.orbit.proofs.propagation.propagate_at.Tie as tie
@@ -41,7 +41,7 @@ returns-2 c =
     let e = call .ensures ∙ ap (λ (k : ℕ). modelAnswer (modelAt (a .tolerance) ts (a .positions .now) k)) (c .before .before .before .before .window-start .ensures .1 ∙ ap (windowStart ts) et) in
     c .motion-at .ensures
     ∙ ap (λ (z : ℤ). answered (motionAt (call .result .orbit) z)) et
-    ∙ propagation-answered (inversionOf (a .tolerance) (windowSeconds ts start)) (windowSeconds ts start) (a .positions .now) start (a .t) (call .result) e (c .before .before .if1 .left)
+    ∙ propagation-answered (inversionOf (a .tolerance) (windowSeconds ts start)) (windowSeconds ts start) (a .positions .now) start (a .t) (call .result) (inversion-told (a .tolerance) (windowSeconds ts start)) e (c .before .before .if1 .left)
 
 pub propagate-at-spec : {M : Type 1} → statement M
 propagate-at-spec =

@@ -3,7 +3,7 @@ use mathlib.Core.Path.{sym, ap, _∙_}
 use lib.Ieee.{ofBits}
 use Rattle.checks.specs.Entries.{firstFailing, propagationChecks}
 use Rattle.checks.proofs.Passed.{propagation-table, propagation-near}
-use Rattle.checks.proofs.Outcomes.{unless-refused, unless-none}
+use Rattle.common.proofs.Outcomes.{unless-refused, unless-none}
 use Rattle.orbit.specs.Window.{evenTolerance}
 use Rattle.orbit.specs.Propagation.{propagated}
 use Rattle.orbit.proofs.Offsets.{near-is}

@@ -6,7 +6,7 @@ use lib.ListN.{take}
 use lib.Ieee.{Float}
 use mir.Syntax.{w64}
 use mir.ValLaws.{toZ-ofZ}
-use Rattle.checks.specs.Outcome.{Outcome}
+use Rattle.common.specs.Outcome.{Outcome}
 use Rattle.orbit.specs.Propagation.{Motion, motionIn, propagated}
 use Rattle.orbit.specs.Residuals.{keep, residualIn}
 use Rattle.orbit.proofs.Totals.{pushed}

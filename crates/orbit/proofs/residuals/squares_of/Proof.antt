@@ -6,7 +6,7 @@ use lib.ListN.{take, drop}
 use lib.Ieee.{ofBits, neg}
 use mathlib.Core.List.{map}
 use Rattle.orbit.specs.Residuals.{total, deviation}
-use Rattle.float.specs.Numbers.{minusZero}
+use Rattle.common.specs.Numbers.{minusZero}
 use Rattle.orbit.proofs.Totals.{mapped-step, mapped-end}
 use borrow.Author.Needs.{needs}
 use Rattle.orbit.proofs.residuals.squares_of.Statement.{statement}

@@ -5,7 +5,7 @@ use native.Mathlib.Omega.{arith}
 use lib.ListN.{take, drop}
 use lib.Ieee.{ofBits, neg}
 use Rattle.orbit.specs.Residuals.{total}
-use Rattle.float.specs.Numbers.{minusZero}
+use Rattle.common.specs.Numbers.{minusZero}
 use Rattle.orbit.proofs.Totals.{total-step, total-end}
 use borrow.Author.Needs.{needs}
 use Rattle.orbit.proofs.residuals.sum_of.Statement.{statement}

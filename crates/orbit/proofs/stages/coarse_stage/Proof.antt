@@ -1,12 +1,11 @@
 -- One stage about the centre, and a second one about 0 where the centre's magnitude is over 5: the definition's list. Assumes nothing.
 use mathlib.Core.Path.{sym, ap, _∙_}
-use mathlib.Core.Bool.{true, false}
 use mathlib.Core.List.{map}
 use native.Mathlib.Omega.{arith}
 use borrow.Author.Tests.{not-true, not-false}
 use lib.Ieee.{Float, binary64, sub, lt, ofBits}
 use Rattle.samples.specs.Means.{recording}
-use Rattle.float.specs.Numbers.{nought}
+use Rattle.common.specs.Numbers.{nought}
 use Rattle.orbit.specs.declared.stages.LeastSoFar.{LeastSoFar}
 use Rattle.orbit.specs.Fit.{Trial, trial, fifteen, tenth, five, noneYet, shiftsFrom}
 use Rattle.orbit.specs.Residuals.{inputsOf, residualOf}

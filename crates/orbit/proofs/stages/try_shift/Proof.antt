@@ -12,8 +12,8 @@ use mir.ValLaws.{toZ-pos}
 use Rattle.float.specs.Root.{root}
 use Rattle.float.specs.Conversions.{nearestOf}
 use Rattle.samples.specs.Means.{Sample, recording}
-use Rattle.orbit.specs.Residuals.{Residual, inputsOf, residualOf, residuals, total, meanOver, deviation}
-use Rattle.float.specs.Numbers.{minusZero}
+use Rattle.orbit.specs.Residuals.{Residual, inputsOf, residualOf, total, meanOver, deviation}
+use Rattle.common.specs.Numbers.{minusZero}
 use Rattle.samples.proofs.Recordings.{record-length}
 use Rattle.orbit.proofs.Trials.{mean-is, length-front, too-few, won, lost}
 use borrow.Author.Needs.{needs}

@@ -4,6 +4,7 @@ use Rattle.chebyshev.specs.Inverse.{inverted, rowsOf}
 use Rattle.chebyshev.specs.Ideal.{idealMatrix}
 use Rattle.chebyshev.specs.Coefficients.{coefficientsBy}
 use Rattle.chebyshev.proofs.IdealInverse.{ideal-not-refused}
+use Rattle.chebyshev.proofs.Columns.{inverted-told}
 use Rattle.orbit.proofs.Models.{made-is}
 use borrow.Author.Needs.{needs}
 use Rattle.orbit.proofs.window.even_model.Statement.{statement}
@@ -37,7 +38,7 @@ returns : tie.Need-returns
 returns c =
     let by = coefficientsBy (rowsOf (inverted idealMatrix)) in
     let s = c .before .before .before .before .before .before .before in
-    made-is (inverted idealMatrix) (s .args .t3) (s .args .positions .now) (s .args .start) _ _ _ ideal-not-refused
+    made-is (inverted idealMatrix) (s .args .t3) (s .args .positions .now) (s .args .start) _ _ _ (inverted-told idealMatrix) ideal-not-refused
     (c .before .before .before .before .ideal-coefficients .ensures ∙ ap by (c .before .before .before .before .before .axis-of .ensures))
     (c .before .before .ideal-coefficients2 .ensures ∙ ap by (c .before .before .before .axis-of2 .ensures))
     (c .ideal-coefficients3 .ensures ∙ ap by (c .before .axis-of3 .ensures))

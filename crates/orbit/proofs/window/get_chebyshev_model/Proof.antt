@@ -2,10 +2,9 @@
 use mathlib.Core.Path.{sym, ap, _∙_}
 use Prim.Native.Nat.{ℕ}
 use lib.Ieee.{ofBits}
-use Rattle.checks.specs.Outcome.{refused}
 use Rattle.checks.specs.Entries.{firstFailing, propagationChecks}
 use Rattle.checks.proofs.Passed.{propagation-table, propagation-near}
-use Rattle.checks.proofs.Outcomes.{unless-refused, unless-none}
+use Rattle.common.proofs.Outcomes.{unless-refused, unless-none}
 use Rattle.orbit.specs.Window.{evenTolerance, windowStart, modelAt, modelAbout, modelAnswer}
 use Rattle.orbit.proofs.Offsets.{near-is}
 use native.Mathlib.Omega.{arith}

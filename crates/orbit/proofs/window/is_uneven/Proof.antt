@@ -5,7 +5,7 @@ use native.Mathlib.Omega.{arith}
 use lib.ListN.{length, getD}
 use lib.Ieee.{nan, binary64, sub, div, lt, ofBits}
 use Rattle.orbit.specs.Window.{wideFrom, uneven}
-use Rattle.float.specs.Numbers.{nine}
+use Rattle.common.specs.Numbers.{nine}
 use Rattle.orbit.proofs.Models.{wide-found, wide-passed, wide-end}
 use borrow.Author.Needs.{needs}
 use Rattle.orbit.proofs.window.is_uneven.Statement.{statement}

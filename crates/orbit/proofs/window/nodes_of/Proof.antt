@@ -6,7 +6,7 @@ use native.Mathlib.Omega.{arith}
 use lib.ListN.{length, getD, length-set}
 use lib.Ieee.{nan}
 use borrow.Author.Count.{below-none}
-use Rattle.chebyshev.proofs.Filled.{filled, filled-more}
+use Rattle.common.proofs.Filled.{filled, filled-more}
 use Rattle.chebyshev.specs.Recurrence.{rounded, polynomials}
 use Rattle.orbit.specs.Window.{tauOf}
 use borrow.Author.Needs.{needs}

@@ -8,7 +8,7 @@ use lib.IntN.{pos}
 use mir.Syntax.{w64}
 use mir.ValLaws.{toZ-ofZ}
 use borrow.Author.Count.{below-none}
-use Rattle.chebyshev.proofs.Filled.{filled, filled-more}
+use Rattle.common.proofs.Filled.{filled, filled-more}
 use Rattle.orbit.specs.Window.{secondsOf}
 use borrow.Author.Needs.{needs}
 use Rattle.orbit.proofs.window.seconds_in.Statement.{statement}

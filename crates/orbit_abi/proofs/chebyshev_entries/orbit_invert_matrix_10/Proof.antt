@@ -1,10 +1,12 @@
 -- By the entry's answer: a refusal of 0 is the case with an inverse, whose numbers go into the area, and any other leaves the area. Assumes nothing.
 use mathlib.Core.Path.{_≡_, refl, sym, ap, _∙_}
-use Prim.Native.Nat.{ℕ}
+use Prim.Native.Nat.{zero, suc}
 use native.Mathlib.Omega.{arith}
+use Rattle.chebyshev.proofs.Columns.{inverted-told}
+use Rattle.common.specs.Outcome.{Outcome, refused, answered, refusalIn, Told, areaOf}
 use Rattle.chebyshev.specs.declared.inverse.Inverse.{Inverse}
-use Rattle.chebyshev.specs.Inverse.{Row, Matrix, Outcome, singular, inverse, inverted, refusalOf, answerOf}
-use Rattle.orbit_abi.specs.Areas.{rowsIn, inverseArea}
+use Rattle.chebyshev.specs.Inverse.{Row, Matrix, inverted, flat, answerOf}
+use Rattle.orbit_abi.specs.Areas.{rowsIn}
 use borrow.Author.Needs.{needs}
 use Rattle.orbit_abi.proofs.chebyshev_entries.orbit_invert_matrix_10.Statement.{statement}
 use Rattle.orbit_abi.proofs.chebyshev_entries.orbit_invert_matrix_10.Tie as tie
@@ -15,20 +17,18 @@ rows-of-requires c κs = search needs
 invert-matrix-10-requires : tie.Need-invert-matrix-10-requires
 invert-matrix-10-requires c κs = search needs
 
-refusal-is : (o : Outcome) (i : Inverse) → i ≡ answerOf o → i .refusal ≡ refusalOf o
-refusal-is singular i e = ap (λ (x : Inverse). x .refusal) e
-refusal-is (inverse v) i e = ap (λ (x : Inverse). x .refusal) e
+refusal-is : (o : Outcome Matrix) (i : Inverse) → i ≡ answerOf o → i .refusal ≡ refusalIn o
+refusal-is (refused n) i e = ap (λ (x : Inverse). x .refusal) e
+refusal-is (answered v) i e = ap (λ (x : Inverse). x .refusal) e
 
-answered : (o : Outcome) (i : Inverse) (old : Row) → i ≡ answerOf o → i .refusal ≡ 0 → i .numbers ≡ inverseArea o old
-answered singular i old e z = absurd (eight (sym (ap (λ (x : Inverse). x .refusal) e) ∙ z))
-  where
-    eight : _≡_ {A = ℕ} 8 0 → ⊥
-    eight h = omega arith
-answered (inverse v) i old e z = ap (λ (x : Inverse). x .numbers) e
+written : (o : Outcome Matrix) (i : Inverse) (old : Row) → Told o → i ≡ answerOf o → i .refusal ≡ 0 → i .numbers ≡ areaOf flat o old
+written (refused zero) i old t e z = absurd t
+written (refused (suc n)) i old t e z = let y : suc n ≡ 0 = sym (ap (λ (x : Inverse). x .refusal) e) ∙ z in absurd (omega arith)
+written (answered v) i old t e z = ap (λ (x : Inverse). x .numbers) e
 
-refused : (o : Outcome) (i : Inverse) (old : Row) → i ≡ answerOf o → (i .refusal ≡ 0 → ⊥) → old ≡ inverseArea o old
-refused singular i old e n = refl
-refused (inverse v) i old e n = absurd (n (ap (λ (x : Inverse). x .refusal) e))
+untouched : (o : Outcome Matrix) (i : Inverse) (old : Row) → i ≡ answerOf o → (i .refusal ≡ 0 → ⊥) → old ≡ areaOf flat o old
+untouched (refused n) i old e h = refl
+untouched (answered v) i old e h = absurd (h (ap (λ (x : Inverse). x .refusal) e))
 
 returns : tie.Need-returns
 returns c =
@@ -36,7 +36,7 @@ returns c =
     let o = inverted (rowsIn (s .args .rows .now)) in
     let call = c .before .before .invert-matrix-10 in
     let e = call .ensures ∙ ap (λ (m : Matrix). answerOf (inverted m)) (c .before .before .before .rows-of .ensures) in
-    (refusal-is o (call .result) e, answered o (call .result) (s .args .inverse .now) e (c .before .if1 .taken))
+    (refusal-is o (call .result) e, written o (call .result) (s .args .inverse .now) (inverted-told (rowsIn (s .args .rows .now))) e (c .before .if1 .taken))
 
 returns-2 : tie.Need-returns-2
 returns-2 c =
@@ -44,7 +44,7 @@ returns-2 c =
     let o = inverted (rowsIn (s .args .rows .now)) in
     let call = c .before .invert-matrix-10 in
     let e = call .ensures ∙ ap (λ (m : Matrix). answerOf (inverted m)) (c .before .before .rows-of .ensures) in
-    (refusal-is o (call .result) e, refused o (call .result) (s .args .inverse .now) e (c .if1 .left))
+    (refusal-is o (call .result) e, untouched o (call .result) (s .args .inverse .now) e (c .if1 .left))
 
 pub orbit-invert-matrix-10-spec : {M : Type 1} → statement M
 orbit-invert-matrix-10-spec =

@@ -5,7 +5,7 @@ use native.Mathlib.Omega.{arith}
 use lib.ListN.{length, getD, length-set}
 use lib.Ieee.{nan}
 use borrow.Author.Count.{below-none}
-use Rattle.chebyshev.proofs.Filled.{filled, filled-more}
+use Rattle.common.proofs.Filled.{filled, filled-more}
 use borrow.Author.Needs.{needs}
 use Rattle.orbit_abi.proofs.chebyshev_entries.row_at.Statement.{statement}
 use Rattle.orbit_abi.proofs.chebyshev_entries.row_at.Tie as tie

@@ -6,7 +6,7 @@ use native.Mathlib.Omega.{arith}
 use lib.ListN.{length, getD, length-set}
 use borrow.Author.Count.{below-none}
 use Rattle.orbit_abi.specs.Areas.{rowAt}
-use Rattle.chebyshev.proofs.Filled.{filled, filled-more}
+use Rattle.common.proofs.Filled.{filled, filled-more}
 use borrow.Author.Needs.{needs}
 use Rattle.orbit_abi.proofs.chebyshev_entries.rows_of.Statement.{statement}
 use Rattle.orbit_abi.proofs.chebyshev_entries.rows_of.Tie as tie

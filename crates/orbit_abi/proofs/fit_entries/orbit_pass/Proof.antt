@@ -26,7 +26,7 @@ returns : tie.Need-returns
 returns c =
     let call = c .before .before .before .before .before .before in
     let args = call .before .before .before .before .before .before .args in
-    let inputs = inputsOf evenTolerance (args .instants .now) (args .positions .now) (observerOf (args .ox) (args .oy) (args .oz)) (args .f0) in
+    let inputs = inputsOf evenTolerance (args .instants .now) (args .positions .now) (observerOf (args .ox) (args .oy) (args .oz)) (args .f0 .0) in
     let outcome = passReport inputs (args .samples .now) (args .frequencies .now) (args .mean-instants .now) (args .mean-frequencies .now) in
     let found = fitIn (call .pass .result) in
     let told = c .fitted-into .ensures in

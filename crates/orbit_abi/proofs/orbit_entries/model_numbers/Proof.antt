@@ -5,7 +5,7 @@ use native.Mathlib.Omega.{arith}
 use lib.ListN.{length, getD, length-set}
 use lib.Ieee.{nan}
 use borrow.Author.Count.{below-none}
-use Rattle.chebyshev.proofs.Filled.{filled, filled-more}
+use Rattle.common.proofs.Filled.{filled, filled-more}
 use Rattle.orbit_abi.specs.Models.{modelNumber}
 use borrow.Author.Needs.{needs}
 use Rattle.orbit_abi.proofs.orbit_entries.model_numbers.Statement.{statement}

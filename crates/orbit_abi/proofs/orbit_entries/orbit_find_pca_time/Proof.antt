@@ -1,10 +1,9 @@
 -- By the entry's answer: an instant goes into the area, and a refusal leaves it. Assumes nothing.
-use mathlib.Core.Path.{_≡_, sym, ap, _∙_}
+use mathlib.Core.Path.{sym, ap, _∙_}
 use lib.IntN.{ℤ}
 use mir.Syntax.{w64}
-use mir.Val.{toZ, ofZ}
 use mir.ValLaws.{toZ-ofZ}
-use Rattle.checks.specs.Outcome.{Outcome}
+use Rattle.common.specs.Outcome.{Outcome}
 use Rattle.orbit.specs.Closest.{closestIn, closestApproach}
 use Rattle.orbit_abi.specs.Models.{observerOf}
 use Rattle.orbit_abi.proofs.Outcomes.{answered-as, refused-as}
@@ -21,12 +20,8 @@ enum-known-closest c = search needs
 enum-known-closest-2 : tie.Need-enum-known-closest-2
 enum-known-closest-2 c = search needs
 
-abbrev there : tie.Start → ℤ → Outcome ℤ
-there s t = closestApproach (s .args .instants .now) (s .args .positions .now) (observerOf (s .args .ox) (s .args .oy) (s .args .oz)) t
-
-found-there : (c : tie.After-find-pca-time) → closestIn (c .find-pca-time .result) ≡ there (c .before .before) (c .before .before .args .instant)
-found-there c =
-    _∙_ {b = there (c .before .before) (toZ w64 (ofZ w64 (c .before .before .args .instant)))} (c .find-pca-time .ensures) (ap (there (c .before .before)) (toZ-ofZ w64 (c .before .before .args .instant) (c .before .before .fits .instant)))
+abbrev there : tie.Start → Outcome ℤ
+there s = closestApproach (s .args .instants .now) (s .args .positions .now) (observerOf (s .args .ox) (s .args .oy) (s .args .oz)) (s .args .instant .0)
 
 returns : tie.Need-returns
 returns c =
@@ -34,14 +29,14 @@ returns c =
     let s = call .before .before in
     let told = c .before .before .closest .given in
     let t = told .0 .0 .0 in
-    answered-as (λ (x : ℤ). x) (there s (s .args .instant)) (s .args .found .now) t _ (toZ-ofZ w64 t (record { sfits = c .struct-told .given .0 .1 })) (sym (ap closestIn (told .1)) ∙ found-there call)
+    answered-as (λ (x : ℤ). x) (there s) (s .args .found .now) t _ (toZ-ofZ w64 t (record { sfits = c .struct-told .given .0 .1 })) (sym (ap closestIn (told .1)) ∙ call .find-pca-time .ensures)
 
 returns-2 : tie.Need-returns-2
 returns-2 c =
     let call = c .before .before .before in
     let s = call .before .before in
     let told = c .before .closest2 .given in
-    refused-as (λ (x : ℤ). x) (there s (s .args .instant)) (s .args .found .now) (told .0 .0) (sym (ap closestIn (told .1)) ∙ found-there call)
+    refused-as (λ (x : ℤ). x) (there s) (s .args .found .now) (told .0 .0) (sym (ap closestIn (told .1)) ∙ call .find-pca-time .ensures)
 
 pub orbit-find-pca-time-spec : {M : Type 1} → statement M
 orbit-find-pca-time-spec =

@@ -1,11 +1,8 @@
 -- By the entry's number: 0 is the case with a model, whose numbers go into the area, and any other leaves the area. Assumes nothing.
-use mathlib.Core.Path.{_≡_, ap, _∙_}
-use lib.IntN.{ℤ}
-use mir.Syntax.{w64}
-use mir.ValLaws.{toZ-ofZ}
 use Rattle.checks.specs.Entries.{firstFailing, propagationChecks}
-use Rattle.orbit.specs.Window.{evenTolerance, windowStart, windowSeconds, inversionOf, modelAnswer, chebyshevModel}
+use Rattle.orbit.specs.Window.{evenTolerance, windowStart, windowSeconds, inversionOf, chebyshevModel}
 use Rattle.orbit_abi.specs.Models.{modelNumbers}
+use Rattle.orbit.proofs.Models.{inversion-told}
 use Rattle.orbit_abi.proofs.Outcomes.{model-answered, model-refused}
 use borrow.Author.Needs.{needs}
 use Rattle.orbit_abi.proofs.orbit_entries.orbit_get_chebyshev_model.Statement.{statement}
@@ -17,27 +14,22 @@ get-chebyshev-model-requires c κs = search needs
 model-numbers-requires : tie.Need-model-numbers-requires
 model-numbers-requires c κs = search needs
 
-model-there : (c : tie.After-get-chebyshev-model) → c .get-chebyshev-model .result ≡ modelAnswer (chebyshevModel (c .before .before .args .instants .now) (c .before .before .args .positions .now) (c .before .before .args .instant))
-model-there c =
-    let s = c .before .before in
-    c .get-chebyshev-model .ensures ∙ ap (λ (t : ℤ). modelAnswer (chebyshevModel (s .args .instants .now) (s .args .positions .now) t)) (toZ-ofZ w64 (s .args .instant) (s .fits .instant))
-
 returns : tie.Need-returns
 returns c =
     let call = c .before .before .before in
     let args = call .before .before .args in
     let ts = args .instants .now in
     let ps = args .positions .now in
-    let start = windowStart ts (args .instant) in
+    let start = windowStart ts (args .instant .0) in
     let times = windowSeconds ts start in
-    model-answered modelNumbers (args .model .now) (call .get-chebyshev-model .result) (firstFailing (propagationChecks ts ps (args .instant))) (inversionOf evenTolerance times) times ps start
-    (c .model-numbers .result) (model-there call) (c .before .before .if1 .taken) (c .model-numbers .ensures)
+    model-answered modelNumbers (args .model .now) (call .get-chebyshev-model .result) (firstFailing (propagationChecks ts ps (args .instant .0))) (inversionOf evenTolerance times) times ps start
+    (c .model-numbers .result) (inversion-told evenTolerance times) (call .get-chebyshev-model .ensures) (c .before .before .if1 .taken) (c .model-numbers .ensures)
 
 returns-2 : tie.Need-returns-2
 returns-2 c =
     let call = c .before in
     let args = call .before .before .args in
-    model-refused modelNumbers (args .model .now) (call .get-chebyshev-model .result) (chebyshevModel (args .instants .now) (args .positions .now) (args .instant)) (model-there call) (c .if1 .left)
+    model-refused modelNumbers (args .model .now) (call .get-chebyshev-model .result) (chebyshevModel (args .instants .now) (args .positions .now) (args .instant .0)) (call .get-chebyshev-model .ensures) (c .if1 .left)
 
 pub orbit-get-chebyshev-model-spec : {M : Type 1} → statement M
 orbit-get-chebyshev-model-spec =

@@ -1,7 +1,4 @@
 -- The motion that is put into the area is that of the table. Assumes nothing.
-use mathlib.Core.Path.{_∙_, ap}
-use mir.Syntax.{w64}
-use mir.ValLaws.{toZ-ofZ}
 use Rattle.orbit.specs.Propagation.{motionIn, propagation}
 use Rattle.orbit_abi.specs.Models.{motionNumbers}
 use Rattle.orbit_abi.proofs.Outcomes.{given-as}
@@ -19,8 +16,7 @@ returns : tie.Need-returns
 returns c =
     let call = c .before .before in
     let s = call .before .before in
-    let at = propagation (s .args .instants .now) (s .args .positions .now) in
-    given-as motionNumbers (at (s .args .instant)) (s .args .out .now) (motionIn (call .propagate-ecef .result)) _ _ (c .motion-into .ensures) (call .propagate-ecef .ensures ∙ ap at (toZ-ofZ w64 (s .args .instant) (s .fits .instant)))
+    given-as motionNumbers (propagation (s .args .instants .now) (s .args .positions .now) (s .args .instant .0)) (s .args .out .now) (motionIn (call .propagate-ecef .result)) _ _ (c .motion-into .ensures) (call .propagate-ecef .ensures)
 
 pub orbit-propagate-ecef-spec : {M : Type 1} → statement M
 orbit-propagate-ecef-spec =

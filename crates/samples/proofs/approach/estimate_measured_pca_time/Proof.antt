@@ -8,11 +8,11 @@ use lib.ListN.{getD}
 use lib.Ieee.{ofBits, neg, div}
 use mir.Syntax.{w64}
 use mir.ValLaws.{toZ-ofZ}
-use Rattle.checks.specs.Outcome.{answered}
+use Rattle.common.specs.Outcome.{answered}
 use Rattle.checks.specs.Entries.{firstFailing, samplesChecks}
 use Rattle.checks.proofs.Passed.{samples-samples}
 use Rattle.samples.specs.Approach.{approachOf}
-use Rattle.checks.proofs.Outcomes.{unless-refused, unless-none}
+use Rattle.common.proofs.Outcomes.{unless-refused, unless-none}
 use Rattle.samples.proofs.Answers.{approach-is}
 use Rattle.samples.proofs.approach.estimate_measured_pca_time.Statement.{statement}
 use Rattle.samples.proofs.approach.estimate_measured_pca_time.Tie as tie
@@ -50,7 +50,7 @@ returns-2 c =
     let ts = a .instants .now in
     let fs = a .frequencies .now in
     ap (λ (z : ℤ). answered z) (toZ-ofZ w64 (getD ts (w .result .middle) (pos 0)) (record { sfits = c .t11 .given }))
-    ∙ approach-is ts fs (w .result .slope) (w .result .middle) (w .ensures .0) (w .ensures .1) true (c .before .if2 .taken)
+    ∙ approach-is ts fs (w .result) (w .ensures .0) true (c .before .if2 .taken)
     ∙ unless-none (k .result) (firstFailing (samplesChecks ts fs)) (approachOf ts fs) (k .ensures) (e .if1 .left)
 
 returns-3 : tie.Need-returns-3
@@ -62,7 +62,7 @@ returns-3 c =
     let a = e .before .before .before .args in
     let ts = a .instants .now in
     let fs = a .frequencies .now in
-    approach-is ts fs (w .result .slope) (w .result .middle) (w .ensures .0) (w .ensures .1) false (c .if2 .left)
+    approach-is ts fs (w .result) (w .ensures .0) false (c .if2 .left)
     ∙ unless-none (k .result) (firstFailing (samplesChecks ts fs)) (approachOf ts fs) (k .ensures) (e .if1 .left)
 
 pub estimate-measured-pca-time-spec : {M : Type 1} → statement M

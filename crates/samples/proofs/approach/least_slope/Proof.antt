@@ -1,17 +1,19 @@
 -- The search from sample i on, with the best so far, ends where the whole search does; the best's middle is a sample. Assumes nothing.
 use borrow.Author.Needs.{needs}
-use mathlib.Core.Path.{_≡_, sym, ap, _∙_}
-use Prim.Native.Nat.{_-_, _<_, _≤_}
+use mathlib.Core.Path.{_≡_, sym, ap, _∙_, subst}
+use Prim.Native.Nat.{_+_, _-_, _<_, _≤_}
 use native.Mathlib.Omega.{arith}
 use lib.ListN.{length}
 use lib.Ieee.{ofBits}
-use Rattle.samples.specs.Approach.{Least, steeper, leastSlope}
-use Rattle.samples.proofs.Slopes.{rest, rest-start, rest-step, rest-end, short, middle-in}
+use Rattle.common.proofs.Search.{search-step, search-end}
+use Rattle.samples.specs.declared.approach.LeastSlope.{LeastSlope}
+use Rattle.samples.specs.Approach.{sloped, steeper, leastSlope}
+use Rattle.samples.proofs.Slopes.{rest, rest-start, short, middle-in}
 use Rattle.samples.proofs.approach.least_slope.Statement.{statement}
 use Rattle.samples.proofs.approach.least_slope.Tie as tie
 
 abbrev Inv-loop : tie.InvT-loop
-Inv-loop instants frequencies floor best₀ n i₀ i-end best i = (0 < i) × (i ≤ length instants - 1) × (best .middle < length instants) × (rest floor instants frequencies i (best .slope) (best .middle) ≡ leastSlope floor instants frequencies)
+Inv-loop instants frequencies floor best₀ n i₀ i-end best i = (0 < i) × (i ≤ length instants - 1) × (best .middle < length instants) × (rest floor instants frequencies i best ≡ leastSlope floor instants frequencies)
 
 abbrev μ-loop : tie.MeasureT-loop
 μ-loop instants frequencies floor best₀ n i₀ i-end best i = length instants - i
@@ -21,7 +23,7 @@ unfolding ofBits
 returns c =
     let a = c .before .before .args in
     let e = short (a .floor) (a .instants .now) (a .frequencies .now) (c .if1 .taken) in
-    (ap (λ (x : Least). x .slope) e, ap (λ (x : Least). x .middle) e, c .before .before .pre .0)
+    (e, c .before .before .pre .0)
 
 sub-i-end : tie.Need-sub-i-end Inv-loop μ-loop
 sub-i-end c = search needs
@@ -45,19 +47,22 @@ loop-again : tie.Need-loop-again Inv-loop μ-loop
 loop-again c =
     let at = c .before .before .loop in
     let a = c .before .before .before .before .before .args in
+    let ts = a .instants .now in
+    let fs = a .frequencies .now in
     let w = c .steeper-at in (
       omega arith,
       omega arith,
-      middle-in (steeper (a .floor) (a .instants .now) (a .frequencies .now) (at .i) (at .best .slope)) (w .result .middle) (at .i) (at .best .middle) (length (a .instants .now)) (w .ensures .1) (omega arith) (at .inv .2),
-      rest-step (a .floor) (a .instants .now) (a .frequencies .now) (at .i) (at .best .slope) (at .best .middle) (w .result .slope) (w .result .middle) (omega arith) (w .ensures) ∙ at .inv .3,
+      subst (λ (x : LeastSlope). x .middle < length ts) (sym (w .ensures))
+          (middle-in (steeper (a .floor) ts (sloped ts fs (at .i)) (at .best)) (sloped ts fs (at .i)) (at .best) (length ts) (omega arith) (at .inv .2)),
+      ap (rest (a .floor) ts fs (at .i + 1)) (w .ensures) ∙ search-step (steeper (a .floor) ts) (sloped ts fs) (length ts - 1) (at .i) (at .best) (omega arith) ∙ at .inv .3,
     )
 
 returns-2 : tie.Need-returns-2 Inv-loop μ-loop
 returns-2 c =
     let at = c .before .loop in
     let a = c .before .before .before .before .args in
-    let e = sym (rest-end (a .floor) (a .instants .now) (a .frequencies .now) (at .i) (at .best .slope) (at .best .middle) (omega arith)) ∙ at .inv .3 in
-    (ap (λ (x : Least). x .slope) e, ap (λ (x : Least). x .middle) e, at .inv .2)
+    let ts = a .instants .now in
+    (sym (search-end (steeper (a .floor) ts) (sloped ts (a .frequencies .now)) (length ts - 1) (at .i) (at .best) (omega arith)) ∙ at .inv .3, at .inv .2)
 
 pub least-slope-spec : {M : Type 1} → statement M
 least-slope-spec =

@@ -9,7 +9,7 @@ use lib.ListN.{getD}
 use lib.Ieee.{ofBits}
 use Rattle.samples.specs.Approach.{gapOf, gapAt}
 use Rattle.samples.proofs.Gaps.{Near, back-near}
-use Rattle.samples.proofs.Slopes.{kept-by-gap, kept-by-slope, kept-by-floor, won}
+use Rattle.samples.proofs.Slopes.{kept-by-gap, kept-by-slope, kept-by-floor, taken}
 use Rattle.samples.proofs.approach.steeper_at.Statement.{statement}
 use Rattle.samples.proofs.approach.steeper_at.Tie as tie
 
@@ -54,7 +54,7 @@ returns : tie.Need-returns
 unfolding ofBits
 returns c =
     let a = c .before .before .before .before .before .args in
-    kept-by-gap (a .floor) (a .instants .now) (a .frequencies .now) (a .i) (a .best .slope) (a .best .middle) (c .before .gap-between .result) (gap-is (c .before)) (c .if1 .taken)
+    kept-by-gap (a .floor) (a .instants .now) (a .frequencies .now) (a .i) (a .best) (c .before .gap-between .result) (gap-is (c .before)) (c .if1 .taken)
 
 add-slope : tie.Need-add-slope
 add-slope c = search needs
@@ -79,21 +79,21 @@ unfolding ofBits
 returns-2 c =
     let g = c .before .before .before .before .before in
     let a = g .before .before .before .before .args in
-    kept-by-slope (a .floor) (a .instants .now) (a .frequencies .now) (a .i) (a .best .slope) (a .best .middle) (g .gap-between .result) (gap-is g) (c .if2 .taken)
+    kept-by-slope (a .floor) (a .instants .now) (a .frequencies .now) (a .i) (a .best) (g .gap-between .result) (gap-is g) (c .if2 .taken)
 
 returns-3 : tie.Need-returns-3
 unfolding ofBits
 returns-3 c =
     let g = c .before .before .before .before .before .before in
     let a = g .before .before .before .before .args in
-    kept-by-floor (a .floor) (a .instants .now) (a .frequencies .now) (a .i) (a .best .slope) (a .best .middle) (g .gap-between .result) (gap-is g) (c .if3 .taken)
+    kept-by-floor (a .floor) (a .instants .now) (a .frequencies .now) (a .i) (a .best) (g .gap-between .result) (gap-is g) (c .if3 .taken)
 
 returns-4 : tie.Need-returns-4
 unfolding ofBits
 returns-4 c =
     let g = c .before .before .before .before .before .before in
     let a = g .before .before .before .before .args in
-    won (a .floor) (a .instants .now) (a .frequencies .now) (a .i) (a .best .slope) (a .best .middle) (g .gap-between .result) (gap-is g) (c .before .before .before .before .before .if1 .left) (c .before .if2 .left) (c .if3 .left)
+    taken (a .floor) (a .instants .now) (a .frequencies .now) (a .i) (a .best) (g .gap-between .result) (gap-is g) (c .before .before .before .before .before .if1 .left) (c .before .if2 .left) (c .if3 .left)
 
 pub steeper-at-spec : {M : Type 1} → statement M
 steeper-at-spec =

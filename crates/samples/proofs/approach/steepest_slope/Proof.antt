@@ -1,12 +1,13 @@
 -- The checks refuse as the definition does; where they pass, the instants are near 1970 and the search is the definition's. Assumes nothing.
 use borrow.Author.Needs.{needs}
 use mathlib.Core.Path.{ap, sym, _∙_}
-use lib.Ieee.{Float, ofBits, neg}
-use Rattle.checks.specs.Outcome.{answered}
+use lib.Ieee.{ofBits, neg}
+use Rattle.common.specs.Outcome.{answered}
 use Rattle.checks.specs.Entries.{firstFailing, samplesChecks}
 use Rattle.checks.proofs.Passed.{samples-samples}
+use Rattle.samples.specs.declared.approach.LeastSlope.{LeastSlope}
 use Rattle.samples.specs.Approach.{steepestSlope, leastSlope}
-use Rattle.checks.proofs.Outcomes.{outcome-refused, outcome-answered}
+use Rattle.common.proofs.Outcomes.{outcome-refused, outcome-answered}
 use Rattle.samples.proofs.approach.steepest_slope.Statement.{statement}
 use Rattle.samples.proofs.approach.steepest_slope.Tie as tie
 
@@ -34,7 +35,7 @@ returns-2 c =
     let a = c .before .before .before .before .args in
     let ts = a .instants .now in
     let fs = a .frequencies .now in
-    ap (λ (x : Float). answered x) (c .least-slope .ensures .0) ∙ outcome-answered (k .result) (firstFailing (samplesChecks ts fs)) (leastSlope steepestSlope ts fs .slope) (k .ensures) (c .before .if1 .left)
+    ap (λ (x : LeastSlope). answered (x .slope)) (c .least-slope .ensures .0) ∙ outcome-answered (k .result) (firstFailing (samplesChecks ts fs)) (leastSlope steepestSlope ts fs .slope) (k .ensures) (c .before .if1 .left)
 
 pub steepest-slope-spec : {M : Type 1} → statement M
 steepest-slope-spec =

@@ -4,7 +4,7 @@ use mathlib.Core.Path.{_≡_, refl, sym, ap, _∙_}
 use mathlib.Core.List.{List}
 use Prim.Native.Nat.{ℕ, zero, suc}
 use lib.ListN.{length}
-use Rattle.checks.specs.Outcome.{refused, answered, outcome, area}
+use Rattle.common.specs.Outcome.{refused, answered, outcome, area}
 use Rattle.checks.proofs.Passed.{means-samples, means-areas}
 use Rattle.samples.specs.Means.{recording, means, meansRefusal}
 use Rattle.samples.specs.Sums.{instantsOfMeans, frequenciesOfMeans}

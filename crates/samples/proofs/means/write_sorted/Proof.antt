@@ -3,7 +3,7 @@ use mathlib.Core.Path.{_≡_, refl, sym, ap, _∙_}
 use mathlib.Core.List.{List}
 use native.Mathlib.Omega.{arith}
 use lib.ListN.{length, take}
-use Rattle.checks.specs.Outcome.{written}
+use Rattle.common.specs.Outcome.{written}
 use Rattle.samples.specs.Means.{Sample, instants, frequencies}
 use Rattle.samples.proofs.Copies.{copied, copy-reached, Sorted, sorted-copy}
 use borrow.Author.Needs.{needs}

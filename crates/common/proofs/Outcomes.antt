@@ -3,7 +3,7 @@
 use mathlib.Core.Path.{_≡_, refl, sym, ap, _∙_}
 use mathlib.Core.List.{List}
 use Prim.Native.Nat.{ℕ, zero, suc}
-use Rattle.checks.specs.Outcome.{Outcome, refused, answered, outcome, unlessRefused, area, written}
+use Rattle.common.specs.Outcome.{Outcome, refused, answered, outcome, unlessRefused, area, written}
 
 pub outcome-refused : {A : Type 0} (k n : ℕ) (a : A) → k ≡ n → (k ≡ 0 → ⊥) → refused k ≡ outcome n a
 outcome-refused zero n a e h = absurd (h refl)

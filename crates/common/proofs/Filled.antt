@@ -8,7 +8,7 @@ use native.Mathlib.Numerals.{add-one}
 use native.Mathlib.Omega.{arith}
 use lib.ListN.{length, getD, set}
 use lib.Seq.{ext-getD, getD-set-same, getD-set-other}
-use Rattle.chebyshev.specs.Lists.{listOf}
+use Rattle.common.specs.Lists.{listOf}
 
 pub length-listOf : {A : Type 0} (f : ℕ → A) (n j : ℕ) → length (listOf f n j) ≡ n
 unfolding listOf

@@ -4,15 +4,15 @@ use mathlib.Core.Bool.{false, not}
 use borrow.Author.Needs.{needs}
 use lib.Ieee.{Float, nan, inf, fin, ofBits, lt, div}
 use Rattle.float.specs.Signs.{magnitudeOf}
-use Rattle.checks.specs.Checks.{infinite}
-use Rattle.checks.proofs.numbers.infinite.Statement.{statement}
-use Rattle.checks.proofs.numbers.infinite.Tie as tie
+use Rattle.checks.specs.Checks.{notFinite}
+use Rattle.checks.proofs.numbers.not_finite.Statement.{statement}
+use Rattle.checks.proofs.numbers.not_finite.Tie as tie
 
 magnitude-requires : tie.Need-magnitude-requires
 magnitude-requires c κs = search needs
 
-by-size : (x : Float) → not (lt (magnitudeOf x) (inf false)) ≡ infinite x
-unfolding lt magnitudeOf infinite
+by-size : (x : Float) → not (lt (magnitudeOf x) (inf false)) ≡ notFinite x
+unfolding lt magnitudeOf notFinite
 by-size nan = refl
 by-size (inf s) = refl
 by-size (fin s m e) = refl
@@ -21,5 +21,5 @@ returns : tie.Need-returns
 unfolding ofBits div
 returns c = rw (c .magnitude .ensures) (by-size (c .before .args .x))
 
-pub infinite-spec : {M : Type 1} → statement M
-infinite-spec = tie.close (tie.spec magnitude-requires returns)
+pub not-finite-spec : {M : Type 1} → statement M
+not-finite-spec = tie.close (tie.spec magnitude-requires returns)

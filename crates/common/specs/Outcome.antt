@@ -1,4 +1,4 @@
--- What an entry gives: the refusal's number, or its answer.
+-- What an entry gives: the refusal's number, or its answer; and what a lent area holds afterwards.
 use Prim.Native.Nat.{ℕ, zero, suc}
 use mathlib.Core.List.{List, _++_}
 use lib.ListN.{length, drop}
@@ -7,6 +7,22 @@ use lib.ListN.{length, drop}
 pub data Outcome (A : Type 0) : Type 0 where
   refused : ℕ → Outcome A
   answered : A → Outcome A
+
+-- the refusal's number, 0 where there is an answer
+abbrev pub refusalIn : {A : Type 0} → Outcome A → ℕ
+refusalIn (refused n) = n
+refusalIn (answered a) = 0
+
+-- 0 says answered: an answer, or a refusal whose number is not 0
+abbrev pub Told : {A : Type 0} → Outcome A → Type 0
+Told (refused zero) = ⊥
+Told (refused (suc n)) = Unit {0}
+Told (answered a) = Unit {0}
+
+-- what is made of an answer; a refusal stays
+abbrev pub mapped : {A B : Type 0} → (A → B) → Outcome A → Outcome B
+mapped f (refused n) = refused n
+mapped f (answered a) = answered (f a)
 
 -- by the first check that fails, 0 where none does
 abbrev pub outcome : {A : Type 0} → ℕ → A → Outcome A
@@ -21,6 +37,11 @@ unlessRefused (suc n) o = refused (suc n)
 -- a lent area with the values at its front, the rest of it untouched
 abbrev pub written : {A : Type 0} → List A → List A → List A
 written values old = values ++ drop (length values) old
+
+-- an area of just the answer's size holds what is made of the answer, or what it held where the call is refused
+abbrev pub areaOf : {A B : Type 0} → (A → B) → Outcome A → B → B
+areaOf f (refused n) old = old
+areaOf f (answered a) old = f a
 
 -- what a lent area holds afterwards: the values at its front, or what it held where the call is refused
 abbrev pub area : {A : Type 0} → ℕ → List A → List A → List A

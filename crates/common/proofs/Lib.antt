@@ -1,0 +1,4 @@
+-- The laws about what every crate says, which the crates above cite.
+pub mod Filled
+pub mod Search
+pub mod Outcomes

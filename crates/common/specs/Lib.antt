@@ -1,0 +1,6 @@
+-- What the definitions of every crate say: what an answer is, lists by their index, the search for the first of the best, and the doubles by name.
+pub mod Outcome
+pub mod Lists
+pub mod Search
+pub mod Numbers
+pub mod Rounded
