@@ -1,17 +1,17 @@
-/* The ship clock's library for C, and for any language that calls C.
+/* The ship clock's library for C (C11 or C++11), and for any language that calls C.
  *
  * Link with target/staticlib/liborbit_abi.a, made by `rt staticlib orbit_abi`.
  *
  * Every function takes any numbers. Those that can refuse answer the refusal's number, 0 where they answered; results go through the
- * pointers at the end and stay untouched on a refusal (but for the means of orbit_pass under 10). A pointer is to as many numbers as its parameter says, or as the count after it
- * says, and never null; areas that are written do not overlap any other argument.
+ * pointers at the end and stay untouched on a refusal (but for the means of orbit_pass under 10). A pointer is to one value of its type,
+ * or to as many as its parameter or the count after it says, and never null; areas that are written do not overlap any other argument.
  *
  * A table of coordinates is its instants, strictly rising, and its positions: x, y, z for each instant, in metres, earth-centred and
  * earth-fixed, so position_count is three times instant_count. A recording is its instants and as many frequencies, in hertz. Slices
  * hold bare numbers; an instant in one is a count of nanoseconds.
  *
  * Each unit is a type of its own with one field, so that kilometres cannot stand where metres are meant: orbit_metres m = {1500.0};
- * On x86-64 such a struct passes as the bare number does.
+ * The library takes and gives these structs by value. An answer of several numbers is a struct of them, so that each keeps its unit.
  *
  * Refusals. The checks are made in this order, and the first that fails gives the number.
  *
@@ -52,6 +52,29 @@ typedef struct { double seconds; } orbit_seconds;
 typedef struct { double hertz; } orbit_hertz;
 typedef struct { int64_t nanoseconds; } orbit_nanoseconds;
 
+/* A velocity, in metres for each second. */
+typedef struct { double metres_per_second; } orbit_metres_per_second;
+
+/* What a fit answers. The clock offset is above zero where the recorder's clock is ahead of the table's. */
+typedef struct { orbit_seconds clock_offset; orbit_hertz frequency_offset; orbit_hertz rmse; } orbit_report;
+
+/* Where a satellite is and how it moves, earth-centred and earth-fixed. */
+typedef struct { orbit_metres x, y, z; orbit_metres_per_second vx, vy, vz; } orbit_motion;
+
+/* The Chebyshev model of ten coordinates: their first time and their last, and ten coefficients of each axis. */
+typedef struct { orbit_seconds t0, t9; orbit_metres cx[10], cy[10], cz[10]; } orbit_model;
+
+/* The library reads and writes these three as 3, 6 and 32 doubles, one after the other in this order: there must be no padding. */
+#ifdef __cplusplus
+#define ORBIT_ASSERT static_assert
+#else
+#define ORBIT_ASSERT _Static_assert
+#endif
+ORBIT_ASSERT(sizeof(orbit_report) == 24, "orbit_report is three doubles");
+ORBIT_ASSERT(sizeof(orbit_motion) == 48, "orbit_motion is six doubles");
+ORBIT_ASSERT(sizeof(orbit_model) == 256, "orbit_model is 32 doubles");
+#undef ORBIT_ASSERT
+
 /* The square root of x, correctly rounded. A zero gives itself, a negative number or NaN gives NaN, infinity infinity. */
 double orbit_sqrt(double x);
 
@@ -67,17 +90,16 @@ void orbit_evaluate_chebyshev(const double c[10], double tau, double *value, dou
 /* The inverse of a ten by ten matrix, both row after row: 0, or 8 and `inverse` untouched. */
 uint8_t orbit_invert_matrix_10(const double rows[100], double inverse[100]);
 
-/* The Chebyshev model of the ten coordinates about an instant, into 32 numbers: the two end times t0 and t9 in seconds, then ten
- * coefficients each of x, y and z in metres. Refuses by 1, 4, 5, 6, 8. */
+/* The Chebyshev model of the ten coordinates about an instant. Refuses by 1, 4, 5, 6, 8. */
 uint8_t orbit_get_chebyshev_model(const int64_t *instants, size_t instant_count, const double *positions, size_t position_count,
-                                  orbit_nanoseconds instant, double model[32]);
+                                  orbit_nanoseconds instant, orbit_model *model);
 
-/* Position (x, y, z in metres) and velocity (x, y, z in metres for each second) by such a model at an instant. Refuses by 4. */
-uint8_t orbit_evaluate(const double model[32], orbit_nanoseconds instant, double out[6]);
+/* Position and velocity by such a model at an instant. Refuses by 4. */
+uint8_t orbit_evaluate(const orbit_model *model, orbit_nanoseconds instant, orbit_motion *out);
 
-/* Position and velocity, as above, by a table at an instant; outside the table they are extrapolated. Refuses by 1, 4, 5, 6, 8. */
+/* Position and velocity by a table at an instant; outside the table they are extrapolated. Refuses by 1, 4, 5, 6, 8. */
 uint8_t orbit_propagate_ecef(const int64_t *instants, size_t instant_count, const double *positions, size_t position_count,
-                             orbit_nanoseconds instant, double out[6]);
+                             orbit_nanoseconds instant, orbit_motion *out);
 
 /* The instant at which the satellite is closest to the observer at (ox, oy, oz), to the second, within 51 minutes of an instant.
  * Refuses by 1, 4, 5, 6. */
@@ -103,20 +125,20 @@ uint8_t orbit_steepest_slope(const int64_t *instants, size_t instant_count, cons
  * 2,000,000 m where the slope's magnitude is at most 0.1 or NaN. */
 orbit_metres orbit_estimate_slant_range(orbit_hertz f0, double slope);
 
-/* The fit of a recording to a satellite, about the instant of its measured approach. Into report: clock offset in seconds, frequency
- * offset in hertz, RMSE in hertz; into count: the number of samples. Refuses by 1, 2, 4, 5, 6, 7, 10. */
+/* The fit of a recording to a satellite, about the instant of its measured approach. Into count: the number of samples.
+ * Refuses by 1, 2, 4, 5, 6, 7, 10. */
 uint8_t orbit_fit_satellite(const int64_t *instants, size_t instant_count, const double *positions, size_t position_count,
                             const int64_t *samples, size_t sample_count, const double *frequencies, size_t frequency_count,
                             orbit_metres ox, orbit_metres oy, orbit_metres oz, orbit_hertz f0, orbit_nanoseconds measured,
-                            double report[3], uint64_t *count);
+                            orbit_report *report, uint64_t *count);
 
 /* The whole pass: the means of a recording, as above, their measured approach or else the mean at index count / 2, and the fit of the means.
- * Into report: as above; into count: the number of means. Refuses by 1, 2, 3, 4, 5, 6, 7, 10; under 10 the means stay written. */
+ * Into count: the number of means. Refuses by 1, 2, 3, 4, 5, 6, 7, 10; under 10 the means stay written. */
 uint8_t orbit_pass(const int64_t *instants, size_t instant_count, const double *positions, size_t position_count,
                    const int64_t *samples, size_t sample_count, const double *frequencies, size_t frequency_count,
                    orbit_metres ox, orbit_metres oy, orbit_metres oz, orbit_hertz f0,
                    int64_t *mean_instants, size_t mean_instant_count, double *mean_frequencies, size_t mean_frequency_count,
-                   double report[3], uint64_t *count);
+                   orbit_report *report, uint64_t *count);
 
 #ifdef __cplusplus
 }

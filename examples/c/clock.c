@@ -40,7 +40,7 @@ typedef struct {
 typedef struct {
     int64_t mean_instants[SAMPLES];   /* ns since 1970-01-01, by the recorder's clock */
     double mean_frequencies[SAMPLES]; /* Hz */
-    double report[3];                 /* clock offset in s, frequency offset in Hz, RMSE in Hz */
+    orbit_report report;
     uint64_t count;                   /* of means */
 } pass_answer;
 
@@ -72,7 +72,7 @@ static uint8_t run_pass(const pass_input *input, pass_answer *answer)
                       input->samples, SAMPLES, input->frequencies, SAMPLES,
                       ox, oy, oz, centre_frequency(),
                       answer->mean_instants, SAMPLES, answer->mean_frequencies, SAMPLES,
-                      answer->report, &answer->count);
+                      &answer->report, &answer->count);
 }
 
 static void print_refusal(uint8_t refusal)
@@ -118,11 +118,10 @@ static void print_means(const pass_answer *answer)
 
 static void print_report(const pass_answer *answer)
 {
-    const orbit_seconds clock_offset = {answer->report[0]};
-    const orbit_hertz frequency_offset = {answer->report[1]}, rmse = {answer->report[2]};
-    printf("clock offset      %.5f s (above zero: the recorder's clock is ahead)\n", clock_offset.seconds);
-    printf("frequency offset  %.3f Hz\n", frequency_offset.hertz);
-    printf("RMSE              %.3f Hz\n", rmse.hertz);
+    const orbit_report *report = &answer->report;
+    printf("clock offset      %.5f s (above zero: the recorder's clock is ahead)\n", report->clock_offset.seconds);
+    printf("frequency offset  %.3f Hz\n", report->frequency_offset.hertz);
+    printf("RMSE              %.3f Hz\n", report->rmse.hertz);
     printf("count of means    %" PRIu64 "\n", answer->count);
 }
 
@@ -147,7 +146,9 @@ static bool near(double found, double expected, double tolerance)
 /* Whether the fit found the offsets that went into the sample data. */
 static bool print_known(const pass_answer *answer)
 {
-    const bool found = near(answer->report[0], known[0].clock_offset, 0.005) && near(answer->report[1], known[0].frequency_offset, 0.5);
+    const orbit_report *report = &answer->report;
+    const bool found = near(report->clock_offset.seconds, known[0].clock_offset, 0.005) &&
+                       near(report->frequency_offset.hertz, known[0].frequency_offset, 0.5);
     printf("went into it      %.5f s and %.3f Hz: %s\n", known[0].clock_offset, known[0].frequency_offset,
            found ? "found, to within 0.005 s and 0.5 Hz" : "NOT found");
     return found;

@@ -1,7 +1,7 @@
 /* An instant is given as a bare number, which does not say its unit. */
 #include "orbit.h"
 
-uint8_t where(const double model[32], double motion[6])
+uint8_t where(const orbit_model *model, orbit_motion *motion)
 {
 #ifdef MENDED
     const orbit_nanoseconds instant = {INT64_C(1750000740000000000)};

@@ -9,27 +9,27 @@ mod refusal;
 pub use refusal::Refusal;
 
 /// A length.
-#[repr(transparent)]
+#[repr(C)]
 #[derive(Clone, Copy, Debug, Default, PartialEq, PartialOrd)]
 pub struct Metres(pub f64);
 
 /// A time.
-#[repr(transparent)]
+#[repr(C)]
 #[derive(Clone, Copy, Debug, Default, PartialEq, PartialOrd)]
 pub struct Seconds(pub f64);
 
 /// A frequency.
-#[repr(transparent)]
+#[repr(C)]
 #[derive(Clone, Copy, Debug, Default, PartialEq, PartialOrd)]
 pub struct Hertz(pub f64);
 
 /// A count of nanoseconds; of an instant: since 1970-01-01, without leap seconds.
-#[repr(transparent)]
+#[repr(C)]
 #[derive(Clone, Copy, Debug, Default, PartialEq, Eq, PartialOrd, Ord)]
 pub struct Nanoseconds(pub i64);
 
 /// A velocity.
-#[repr(transparent)]
+#[repr(C)]
 #[derive(Clone, Copy, Debug, Default, PartialEq, PartialOrd)]
 pub struct MetresPerSecond(pub f64);
 
@@ -76,47 +76,60 @@ pub struct Report {
     pub count: u64,
 }
 
-/// The Chebyshev model of ten coordinates: the end times in seconds, then ten coefficients each of x, y and z in metres.
-#[repr(transparent)]
-#[derive(Clone, Copy, Debug, PartialEq)]
-pub struct ChebyshevModel(pub [f64; 32]);
+/// The Chebyshev model of ten coordinates: their first time and their last, and ten coefficients of each axis.
+#[repr(C)]
+#[derive(Clone, Copy, Debug, Default, PartialEq)]
+pub struct ChebyshevModel {
+    pub t0: Seconds,
+    pub t9: Seconds,
+    pub cx: [Metres; 10],
+    pub cy: [Metres; 10],
+    pub cz: [Metres; 10],
+}
 
 /// Where a satellite is and how it moves.
-#[derive(Clone, Copy, Debug, PartialEq)]
+#[repr(C)]
+#[derive(Clone, Copy, Debug, Default, PartialEq)]
 pub struct Motion {
     pub position: Position,
     pub velocity: [MetresPerSecond; 3],
 }
 
-impl Motion {
-    fn of([x, y, z, vx, vy, vz]: [f64; 6]) -> Self {
-        Motion {
-            position: [x, y, z].map(Metres),
-            velocity: [vx, vy, vz].map(MetresPerSecond),
-        }
-    }
+/// A report as the library writes it, without the count: `orbit_report` of include/orbit.h.
+#[repr(C)]
+#[derive(Default)]
+struct Fitted {
+    clock_offset: Seconds,
+    frequency_offset: Hertz,
+    rmse: Hertz,
 }
 
+// The library reads and writes these as 32, 6 and 3 doubles, one after the other: there must be no padding.
+const _: () = assert!(size_of::<ChebyshevModel>() == 256);
+const _: () = assert!(size_of::<Motion>() == 48);
+const _: () = assert!(size_of::<Fitted>() == 24);
+
 impl Report {
-    fn of([clock_offset, frequency_offset, rmse]: [f64; 3], count: u64) -> Self {
+    fn of(fitted: Fitted, count: u64) -> Self {
         Report {
-            clock_offset: Seconds(clock_offset),
-            frequency_offset: Hertz(frequency_offset),
-            rmse: Hertz(rmse),
+            clock_offset: fitted.clock_offset,
+            frequency_offset: fitted.frequency_offset,
+            rmse: fitted.rmse,
             count,
         }
     }
 }
 
-// SAFETY: these are the signatures of include/orbit.h. A transparent type passes as its number does; a slice is a pointer and a
-// count; a reference is a pointer that is never null. The functions without slices take any arguments, so they are safe.
+// SAFETY: these are the signatures of include/orbit.h. A unit is the header's struct with one field, and a slope passes as its number
+// does; a slice is a pointer and a count; a reference is a pointer that is never null. The functions without slices take any
+// arguments, so they are safe.
 unsafe extern "C" {
     safe fn orbit_sqrt(x: f64) -> f64;
     safe fn orbit_nearest(n: i64) -> f64;
     safe fn orbit_truncated(x: f64) -> i64;
     safe fn orbit_evaluate_chebyshev(c: &[f64; 10], tau: f64, value: &mut f64, slope: &mut f64);
     safe fn orbit_invert_matrix_10(rows: &Matrix, inverse: &mut Matrix) -> u8;
-    safe fn orbit_evaluate(model: &ChebyshevModel, instant: Nanoseconds, out: &mut [f64; 6]) -> u8;
+    safe fn orbit_evaluate(model: &ChebyshevModel, instant: Nanoseconds, out: &mut Motion) -> u8;
     safe fn orbit_estimate_slant_range(f0: Hertz, slope: HertzPerSecond) -> Metres;
     fn orbit_get_chebyshev_model(
         instants: *const Nanoseconds,
@@ -132,7 +145,7 @@ unsafe extern "C" {
         positions: *const Metres,
         position_count: usize,
         instant: Nanoseconds,
-        out: &mut [f64; 6],
+        out: &mut Motion,
     ) -> u8;
     fn orbit_find_pca_time(
         instants: *const Nanoseconds,
@@ -184,7 +197,7 @@ unsafe extern "C" {
         oz: Metres,
         f0: Hertz,
         measured: Nanoseconds,
-        report: &mut [f64; 3],
+        report: &mut Fitted,
         count: &mut u64,
     ) -> u8;
     fn orbit_pass(
@@ -204,7 +217,7 @@ unsafe extern "C" {
         mean_instant_count: usize,
         mean_frequencies: *mut Hertz,
         mean_frequency_count: usize,
-        report: &mut [f64; 3],
+        report: &mut Fitted,
         count: &mut u64,
     ) -> u8;
 }
@@ -241,7 +254,7 @@ pub fn invert_matrix_10(rows: &Matrix) -> Result<Matrix, Refusal> {
 /// The Chebyshev model of the ten coordinates about an instant. Refuses by 1, 4, 5, 6, 8.
 pub fn get_chebyshev_model(table: Table, instant: Nanoseconds) -> Result<ChebyshevModel, Refusal> {
     let (instants, positions) = (table.instants, table.positions.as_flattened());
-    let mut model = ChebyshevModel([0.0; 32]);
+    let mut model = ChebyshevModel::default();
     // SAFETY: each pointer is to as many numbers as the count after it says.
     let number = unsafe {
         orbit_get_chebyshev_model(
@@ -258,15 +271,15 @@ pub fn get_chebyshev_model(table: Table, instant: Nanoseconds) -> Result<Chebysh
 
 /// Position and velocity by such a model at an instant. Refuses by 4.
 pub fn evaluate(model: &ChebyshevModel, instant: Nanoseconds) -> Result<Motion, Refusal> {
-    let mut out = [0.0; 6];
-    let number = orbit_evaluate(model, instant, &mut out);
-    Refusal::or(number, Motion::of(out))
+    let mut motion = Motion::default();
+    let number = orbit_evaluate(model, instant, &mut motion);
+    Refusal::or(number, motion)
 }
 
 /// Position and velocity by a table at an instant; outside the table they are extrapolated. Refuses by 1, 4, 5, 6, 8.
 pub fn propagate_ecef(table: Table, instant: Nanoseconds) -> Result<Motion, Refusal> {
     let (instants, positions) = (table.instants, table.positions.as_flattened());
-    let mut out = [0.0; 6];
+    let mut motion = Motion::default();
     // SAFETY: each pointer is to as many numbers as the count after it says.
     let number = unsafe {
         orbit_propagate_ecef(
@@ -275,10 +288,10 @@ pub fn propagate_ecef(table: Table, instant: Nanoseconds) -> Result<Motion, Refu
             positions.as_ptr(),
             positions.len(),
             instant,
-            &mut out,
+            &mut motion,
         )
     };
-    Refusal::or(number, Motion::of(out))
+    Refusal::or(number, motion)
 }
 
 /// The instant at which the satellite is closest to the observer, to the second, within 51 minutes of an instant.
@@ -379,7 +392,7 @@ pub fn fit_satellite(
 ) -> Result<Report, Refusal> {
     let (instants, positions) = (table.instants, table.positions.as_flattened());
     let (samples, frequencies) = (recording.instants, recording.frequencies);
-    let (mut report, mut count) = ([0.0; 3], 0);
+    let (mut fitted, mut count) = (Fitted::default(), 0);
     // SAFETY: each pointer is to as many numbers as the count after it says.
     let number = unsafe {
         orbit_fit_satellite(
@@ -396,11 +409,11 @@ pub fn fit_satellite(
             oz,
             f0,
             measured,
-            &mut report,
+            &mut fitted,
             &mut count,
         )
     };
-    Refusal::or(number, Report::of(report, count))
+    Refusal::or(number, Report::of(fitted, count))
 }
 
 /// The whole pass: the means of a recording, at the front of the areas, their measured approach or else the mean at index
@@ -414,7 +427,7 @@ pub fn pass(
 ) -> Result<Report, Refusal> {
     let (instants, positions) = (table.instants, table.positions.as_flattened());
     let (samples, frequencies) = (recording.instants, recording.frequencies);
-    let (mut report, mut count) = ([0.0; 3], 0);
+    let (mut fitted, mut count) = (Fitted::default(), 0);
     // SAFETY: each pointer is to as many numbers as the count after it says; nothing overlaps the lent areas.
     let number = unsafe {
         orbit_pass(
@@ -434,9 +447,9 @@ pub fn pass(
             means.instants.len(),
             means.frequencies.as_mut_ptr(),
             means.frequencies.len(),
-            &mut report,
+            &mut fitted,
             &mut count,
         )
     };
-    Refusal::or(number, Report::of(report, count))
+    Refusal::or(number, Report::of(fitted, count))
 }

@@ -6,7 +6,7 @@ mod data;
 use data::Sample;
 use orbit::{
     Hertz, HertzPerSecond, MeansArea, Metres, MetresPerSecond, Nanoseconds, Position, Recording,
-    Refusal, Report, Table,
+    Refusal, Report, Seconds, Table,
 };
 
 const SECOND: i64 = 1_000_000_000;
@@ -83,6 +83,11 @@ fn position_and_velocity() {
     let motion = orbit::propagate_ecef(sample.table(), instant).unwrap();
     let model = orbit::get_chebyshev_model(sample.table(), instant).unwrap();
     assert_eq!(orbit::evaluate(&model, instant), Ok(motion));
+    let time = |row: usize| Seconds(orbit::nearest(sample.instants[row].0) * 1e-9);
+    assert_eq!(
+        (model.t0, model.t9),
+        (time(MIDDLE_ROW - 4), time(MIDDLE_ROW + 5))
+    );
     let expected = sample.positions[MIDDLE_ROW];
     for (Metres(found), Metres(row)) in motion.position.into_iter().zip(expected) {
         assert!((found - row).abs() < 1e-3);
