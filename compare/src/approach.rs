@@ -1,6 +1,6 @@
 //! The measured approach, the steepest slope and the slant range.
 
-use crate::driver::{compare as compare_call, compare_refusals};
+use crate::driver::{Ours, compare as compare_call, compare_paper, compare_refusals};
 use crate::ours::approach as ours;
 use crate::tally::{Tally, Total};
 use crate::timing::{Row, row};
@@ -22,8 +22,14 @@ const RANGES: usize = 100_000;
 pub fn compare(total: &mut Total) {
     compare_recordings(total);
     compare_ranges(total);
-    compare_refusals(total, Entry::EstimateMeasuredPcaTime, ours::approach);
-    compare_refusals(total, Entry::SteepestSlope, ours::slope);
+    compare_paper(total, Entry::EstimateSlantRange, ours::slant_range);
+    for (entry, ours) in [
+        (Entry::EstimateMeasuredPcaTime, ours::approach as Ours),
+        (Entry::SteepestSlope, ours::slope),
+    ] {
+        compare_paper(total, entry, ours);
+        compare_refusals(total, entry, ours);
+    }
 }
 
 /// Approach and slope of every sort of recording.

@@ -4,6 +4,7 @@ use crate::ours::{self, MARKER};
 use crate::tally::{Tally, Total};
 use crate::timing::{Row, row};
 use compare::inputs::matrices::{self, Matrix};
+use compare::inputs::paper;
 use compare::inputs::polynomials::{self, Polynomial};
 use compare::inputs::random::Random;
 use compare::reference;
@@ -50,7 +51,7 @@ pub fn time() -> Vec<Row> {
 fn compare_evaluations(total: &mut Total) {
     let mut tally = Tally::new("evaluate_chebyshev");
     let mut random = Random::new(5);
-    for polynomial in polynomials::fixed() {
+    for polynomial in paper::sums().into_iter().chain(polynomials::fixed()) {
         compare_evaluation(&mut tally, &polynomial);
     }
     for draw in polynomials::KINDS {
@@ -87,7 +88,7 @@ fn rust_value_and_slope(polynomial: &Polynomial) -> (f64, f64) {
 fn compare_inverses(total: &mut Total) {
     let mut tally = Tally::new("invert_matrix_10");
     let mut random = Random::new(6);
-    for rows in matrices::fixed() {
+    for rows in paper::matrices().into_iter().chain(matrices::fixed()) {
         compare_inverse(&mut tally, &rows);
     }
     for draw in matrices::KINDS {

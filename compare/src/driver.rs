@@ -6,6 +6,7 @@ use compare::calls::{Call, Entry};
 use compare::checks::{self, COORDINATES, SAMPLES};
 use compare::expected;
 use compare::inputs::faults::{self, Change};
+use compare::inputs::paper;
 
 /// Our answer to a call of one entry.
 pub type Ours = fn(&Call) -> Answer;
@@ -45,6 +46,15 @@ fn shown(words: &[String]) -> String {
         return words.join(" ");
     }
     format!("{} ... ({} words)", words[..SHOWN].join(" "), words.len())
+}
+
+/// Compares an entry's calls of the paper's case table.
+pub fn compare_paper(total: &mut Total, entry: Entry, ours: Ours) {
+    let mut tally = Tally::new(format!("{}, the paper's table", entry.name()));
+    for call in paper::calls(entry) {
+        compare(&mut tally, entry, ours, &call);
+    }
+    tally.finish(total);
 }
 
 /// Compares the refusals of an entry: every fault alone, every two of them at once, and what just passes.

@@ -1,6 +1,6 @@
 //! The fit and the pass.
 
-use crate::driver::{Ours, compare as compare_call, compare_refusals};
+use crate::driver::{Ours, compare as compare_call, compare_paper, compare_refusals};
 use crate::ours::fit as ours;
 use crate::tally::{Tally, Total};
 use crate::timing::{Row, row};
@@ -28,8 +28,13 @@ const LAST_STEP: f64 = 0.00001;
 pub fn compare(total: &mut Total) {
     compare_calls(total, Entry::FitSatellite, ours::fit, 60);
     compare_calls(total, Entry::Pass, ours::pass, 61);
-    compare_refusals(total, Entry::FitSatellite, ours::fit);
-    compare_refusals(total, Entry::Pass, ours::pass);
+    for (entry, ours) in [
+        (Entry::FitSatellite, ours::fit as Ours),
+        (Entry::Pass, ours::pass),
+    ] {
+        compare_paper(total, entry, ours);
+        compare_refusals(total, entry, ours);
+    }
 }
 
 /// Every kind of call, those whose clock offset is known, and long ones.

@@ -6,6 +6,7 @@ pub mod faults;
 pub mod integers;
 pub mod matrices;
 pub mod orbits;
+pub mod paper;
 pub mod passes;
 pub mod polynomials;
 pub mod random;

@@ -1,6 +1,6 @@
 //! The means by the second.
 
-use crate::driver::{compare as compare_call, compare_refusals};
+use crate::driver::{compare as compare_call, compare_paper, compare_refusals};
 use crate::ours::means as ours;
 use crate::tally::{Tally, Total};
 use crate::timing::{Row, row};
@@ -18,6 +18,7 @@ const RECORDINGS: usize = 300;
 /// Compares the entry.
 pub fn compare(total: &mut Total) {
     compare_means(total);
+    compare_paper(total, Entry::DownsampleData, ours::means);
     compare_refusals(total, Entry::DownsampleData, ours::means);
 }
 

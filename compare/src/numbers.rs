@@ -3,6 +3,7 @@
 use crate::ours;
 use crate::tally::{Tally, Total};
 use crate::timing::{Row, row};
+use compare::inputs::paper;
 use compare::inputs::random::Random;
 use compare::inputs::{doubles, integers};
 use compare::reference;
@@ -61,7 +62,7 @@ fn timed<T>(mut draw: impl FnMut() -> T) -> Vec<T> {
 fn compare_roots(total: &mut Total) {
     let mut tally = Tally::new("sqrt");
     let mut random = Random::new(1);
-    for x in doubles::edges() {
+    for x in paper::roots().into_iter().chain(doubles::edges()) {
         compare_root(&mut tally, x);
     }
     for _ in 0..PATTERNS {

@@ -1,6 +1,6 @@
 //! The tabulated orbit: model, evaluation, propagation and closest approach.
 
-use crate::driver::{compare as compare_call, compare_refusals};
+use crate::driver::{Ours, compare as compare_call, compare_paper, compare_refusals};
 use crate::ours::orbit as ours;
 use crate::tally::{Tally, Total};
 use crate::timing::{Row, row, row_of_ours};
@@ -33,10 +33,15 @@ pub fn compare(total: &mut Total) {
     compare_tables(total);
     compare_models(total);
     compare_closest(total);
-    compare_refusals(total, Entry::GetChebyshevModel, ours::model);
-    compare_refusals(total, Entry::Evaluate, ours::evaluation);
-    compare_refusals(total, Entry::PropagateEcef, ours::propagation);
-    compare_refusals(total, Entry::FindPcaTime, ours::closest);
+    for (entry, ours) in [
+        (Entry::GetChebyshevModel, ours::model as Ours),
+        (Entry::Evaluate, ours::evaluation),
+        (Entry::PropagateEcef, ours::propagation),
+        (Entry::FindPcaTime, ours::closest),
+    ] {
+        compare_paper(total, entry, ours);
+        compare_refusals(total, entry, ours);
+    }
 }
 
 /// Model and propagation by every spacing of tables, and the evaluation of the models.

@@ -10,6 +10,9 @@ pub mod fit;
 pub mod means;
 #[cfg(feature = "orbit")]
 pub mod orbit;
+// Not every group takes every unit.
+#[allow(dead_code)]
+mod units;
 
 use compare::answers::Answer;
 use compare::inputs::matrices::Matrix;

@@ -189,7 +189,13 @@ pub fn fit(
     fit_satellite(orbit, samples, observer, centre, measured)
 }
 
-/// The means, then the fit on them about the measured approach, or else about the middle mean.
+/// The measured approach of a pass, or else its middle mean.
+pub fn measured(means: &Samples) -> DateTime<Utc> {
+    let middle = means[means.len() / 2].0;
+    estimate_measured_pca_time(means).unwrap_or(middle)
+}
+
+/// The means, then the fit on them about the measured approach.
 #[inline(never)]
 pub fn pass(
     orbit: &OrbitModel,
@@ -198,8 +204,6 @@ pub fn pass(
     centre: f64,
 ) -> (Vec<(DateTime<Utc>, f64)>, Option<Report>) {
     let means = downsample_data(samples);
-    let middle = means[means.len() / 2].0;
-    let measured = estimate_measured_pca_time(&means).unwrap_or(middle);
-    let report = fit_satellite(orbit, &means, observer, centre, measured);
+    let report = fit_satellite(orbit, &means, observer, centre, measured(&means));
     (means, report)
 }

@@ -1,7 +1,7 @@
 //! Calls of the fit and the pass: satellites heard by an observer, and everything that can spoil a candidate.
 
 use super::closest;
-use super::orbits::Orbit;
+use super::orbits::{self, Orbit};
 use super::random::Random;
 use super::recordings::{self, FREQUENCIES, INSTANTS, Recording};
 use super::tables::{self, PRESENT, SECOND, Table};
@@ -75,6 +75,16 @@ impl Scene {
         }
     }
 
+    /// The satellite of an even table, right over the observer so long after its first row.
+    fn overhead(orbit: &Orbit, table: Table, after: i64) -> Self {
+        let place = orbit.position(after as f64 / SECOND as f64);
+        Scene {
+            observer: orbits::on_the_ground(place),
+            passing: table.instants[0] + after,
+            table,
+        }
+    }
+
     /// What the observer would hear at these instants of a true clock; the instants are those of a clock that is late.
     fn heard(&self, truly: &[i64], late: i64, centre: f64) -> Recording {
         let orbit = reference::orbit(&self.table);
@@ -104,7 +114,7 @@ impl Scene {
 }
 
 /// The instant of the closest approach about an instant, as the Rust finds it.
-fn closest_to(table: &Table, observer: [f64; 3], instant: i64) -> i64 {
+pub fn closest_to(table: &Table, observer: [f64; 3], instant: i64) -> i64 {
     let orbit = reference::orbit(table);
     let found = reference::closest(&orbit, observer, reference::instant(instant));
     reference::nanoseconds(found.expect("the Rust always finds one"))
@@ -196,7 +206,7 @@ pub fn in_any_order(random: &mut Random, size: Size) -> Call {
 }
 
 /// One sample: the first finite candidate wins with an RMSE of zero.
-pub fn alone(random: &mut Random, size: Size) -> Call {
+fn alone(random: &mut Random, size: Size) -> Call {
     noisy(random, Size { samples: 1, ..size })
 }
 
@@ -249,16 +259,59 @@ fn near_the_closest(random: &mut Random, scene: Scene, recording: Recording, cen
 }
 
 /// The centre of the candidates is about the 5 s past which a second one is tried, and only the second reaches the clock offset.
-pub fn about_two_centres(random: &mut Random, size: Size) -> Call {
+fn about_two_centres(random: &mut Random, size: Size) -> Call {
+    let side = random.pick(&[1, -1]);
+    let centre = side * random.pick(&[4, 5, 5, 6, 6, 7, 60]) * SECOND;
+    let late = -side * random.count(9_000, 15_000) * MILLISECOND;
+    let samples = size.samples.clamp(4, 12);
+    with_centre(random, Size { samples, ..size }, centre, late)
+}
+
+/// A recording without noise by a clock that is so late, about which the candidates have this centre, a whole number of seconds; at least four samples.
+///
+/// The samples lie evenly about the closest approach, but the one that would be there is where the approach is to be measured: between its neighbours the
+/// frequency falls fastest, so that the pass measures it there too. The means have another one in the middle.
+pub fn with_centre(random: &mut Random, size: Size, centre: i64, late: i64) -> Call {
     let uneven = random.one_in(2);
     let scene = Scene::draw(random, uneven, size.rows);
-    let centre = centre(random);
-    let side = random.pick(&[1, -1]);
-    let late = -side * random.count(9_000, 15_000) * MILLISECOND;
-    let recording = scene.heard(&about(scene.passing, size.samples, SECOND), late, centre);
-    let measured = closest_to(&scene.table, scene.observer, scene.passing)
-        + side * random.pick(&[4, 5, 5, 6, 6, 7, 60]) * SECOND;
-    scene.call(random, recording, centre, measured)
+    let closest = closest_to(&scene.table, scene.observer, scene.passing);
+    let frequency = self::centre(random);
+    let away = centre - late;
+    let apart = away.abs() + 3 * SECOND;
+    let mut truly = about(closest + apart, size.samples, apart);
+    truly[size.samples / 2 - 1] += away;
+    let recording = scene.heard(&truly, late, frequency);
+    scene.call(random, recording, frequency, closest + centre)
+}
+
+/// A satellite heard by a clock that is right, half a minute after the given one of 20 rows, when it is overhead; two rows of the table are a nanosecond apart,
+/// the first of them given, so that no window with both has an inverse.
+pub fn after_a_row(random: &mut Random, row: i64, close: usize) -> Call {
+    let orbit = Orbit::low(random);
+    let gap = 60 * SECOND;
+    let table = Table::even(&orbit, PRESENT, gap, 20);
+    let mut instants = table.instants.clone();
+    instants[close + 1] = instants[close] + 1;
+    let mut scene = Scene::overhead(&orbit, table, row * gap + gap / 2);
+    let frequency = centre(random);
+    let recording = scene.heard(&about(scene.passing, 5, 4 * SECOND), 0, frequency);
+    scene.table = Table::of(&orbit, instants);
+    let measured = scene.passing;
+    scene.call(random, recording, frequency, measured)
+}
+
+/// A satellite heard eight times in the second, by a table of ten rows; the fall to the very last sample is the steepest, and less than 120 Hz/s.
+pub fn eight_to_the_second(random: &mut Random, samples: usize) -> Call {
+    let orbit = Orbit::low(random);
+    let gap = 60 * SECOND;
+    let table = Table::even(&orbit, PRESENT, gap, 10);
+    let scene = Scene::overhead(&orbit, table, 9 * gap / 2);
+    let frequency = 137e6;
+    let truly = about(scene.passing, samples, SECOND / 8);
+    let mut recording = scene.heard(&truly, 0, frequency);
+    recording.frequencies[samples - 1] -= 20.0;
+    let measured = scene.passing;
+    scene.call(random, recording, frequency, measured)
 }
 
 /// A satellite that rests: the RMSE is all but the same at every shift.
@@ -298,7 +351,7 @@ pub fn through_the_observer(random: &mut Random, size: Size) -> Call {
 }
 
 /// Frequencies that never fall: there is no measured approach, and the middle mean stands for it.
-fn rising(random: &mut Random, size: Size) -> Call {
+pub fn rising(random: &mut Random, size: Size) -> Call {
     let mut call = noisy(random, size);
     call.recording.frequencies.sort_by(f64::total_cmp);
     call

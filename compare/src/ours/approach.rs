@@ -1,5 +1,6 @@
 //! What a recording says without a table: measured approach, steepest slope; and the slant range.
 
+use super::units::{Hertz, Metres};
 use super::{answer, marked_double, marked_whole};
 use compare::answers::Answer;
 use compare::calls::Call;
@@ -22,7 +23,7 @@ unsafe extern "C" {
         frequencies_length: usize,
         slope: &mut f64,
     ) -> u8;
-    safe fn orbit_estimate_slant_range(f0: f64, slope: f64) -> f64;
+    safe fn orbit_estimate_slant_range(f0: Hertz, slope: f64) -> Metres;
 }
 
 /// The refusal's number, 0 if there is none; then the instant of the measured approach is written.
@@ -57,7 +58,8 @@ pub fn write_slope(recording: &Recording, slope: &mut f64) -> u8 {
 
 /// The slant range.
 pub fn range(centre: f64, slope: f64) -> f64 {
-    orbit_estimate_slant_range(centre, slope)
+    let Metres(range) = orbit_estimate_slant_range(Hertz(centre), slope);
+    range
 }
 
 /// The answer of `estimate_measured_pca_time`.

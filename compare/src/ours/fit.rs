@@ -1,12 +1,13 @@
 //! The fit and the pass.
 
 use super::areas::Areas;
+use super::units::{Hertz, Metres, Nanoseconds};
 use super::{answer, marked_double, marked_whole};
 use compare::answers::{Answer, doubles};
 use compare::calls::Call;
 use compare::words::Word;
 
-// A slice is a pointer and its length.
+// A slice is a pointer and its length; a report is one plain pointer to its three numbers, as the header's struct has them.
 unsafe extern "C" {
     fn orbit_fit_satellite(
         instants: *const i64,
@@ -17,11 +18,11 @@ unsafe extern "C" {
         samples_length: usize,
         frequencies: *const f64,
         frequencies_length: usize,
-        x: f64,
-        y: f64,
-        z: f64,
-        f0: f64,
-        measured: i64,
+        x: Metres,
+        y: Metres,
+        z: Metres,
+        f0: Hertz,
+        measured: Nanoseconds,
         report: &mut [f64; 3],
         count: &mut u64,
     ) -> u8;
@@ -34,10 +35,10 @@ unsafe extern "C" {
         samples_length: usize,
         frequencies: *const f64,
         frequencies_length: usize,
-        x: f64,
-        y: f64,
-        z: f64,
-        f0: f64,
+        x: Metres,
+        y: Metres,
+        z: Metres,
+        f0: Hertz,
         mean_instants: *mut i64,
         mean_instants_length: usize,
         mean_frequencies: *mut f64,
@@ -50,7 +51,7 @@ unsafe extern "C" {
 /// The refusal's number, 0 if there is none; then report and count of a fit are written.
 pub fn write_fit(call: &Call, report: &mut [f64; 3], count: &mut u64) -> u8 {
     let (table, recording) = (&call.table, &call.recording);
-    let [x, y, z] = call.observer;
+    let [x, y, z] = call.observer.map(Metres);
     // SAFETY: each pointer is to as many numbers as its length says.
     unsafe {
         orbit_fit_satellite(
@@ -65,8 +66,8 @@ pub fn write_fit(call: &Call, report: &mut [f64; 3], count: &mut u64) -> u8 {
             x,
             y,
             z,
-            call.centre,
-            call.instant,
+            Hertz(call.centre),
+            Nanoseconds(call.instant),
             report,
             count,
         )
@@ -82,7 +83,7 @@ pub fn write_pass(
     count: &mut u64,
 ) -> u8 {
     let (table, recording) = (&call.table, &call.recording);
-    let [x, y, z] = call.observer;
+    let [x, y, z] = call.observer.map(Metres);
     // SAFETY: each pointer is to as many numbers as its length says.
     unsafe {
         orbit_pass(
@@ -97,7 +98,7 @@ pub fn write_pass(
             x,
             y,
             z,
-            call.centre,
+            Hertz(call.centre),
             mean_instants.as_mut_ptr(),
             mean_instants.len(),
             mean_frequencies.as_mut_ptr(),

@@ -1,28 +1,29 @@
 //! The tabulated orbit: model, evaluation, propagation, closest approach.
 
+use super::units::{Metres, Nanoseconds};
 use super::{answer, marked_double, marked_whole};
 use compare::answers::{Answer, doubles};
 use compare::calls::Call;
 use compare::inputs::tables::Table;
 use compare::words::Word;
 
-// A slice is a pointer and its length; each reference is one plain pointer to all of its doubles.
+// A slice is a pointer and its length; each reference is one plain pointer to all of its numbers, as the header's structs have them.
 unsafe extern "C" {
     fn orbit_get_chebyshev_model(
         instants: *const i64,
         instants_length: usize,
         positions: *const f64,
         positions_length: usize,
-        instant: i64,
+        instant: Nanoseconds,
         model: &mut [f64; 32],
     ) -> u8;
-    safe fn orbit_evaluate(model: &[f64; 32], instant: i64, motion: &mut [f64; 6]) -> u8;
+    safe fn orbit_evaluate(model: &[f64; 32], instant: Nanoseconds, motion: &mut [f64; 6]) -> u8;
     fn orbit_propagate_ecef(
         instants: *const i64,
         instants_length: usize,
         positions: *const f64,
         positions_length: usize,
-        instant: i64,
+        instant: Nanoseconds,
         motion: &mut [f64; 6],
     ) -> u8;
     fn orbit_find_pca_time(
@@ -30,10 +31,10 @@ unsafe extern "C" {
         instants_length: usize,
         positions: *const f64,
         positions_length: usize,
-        x: f64,
-        y: f64,
-        z: f64,
-        instant: i64,
+        x: Metres,
+        y: Metres,
+        z: Metres,
+        instant: Nanoseconds,
         found: &mut i64,
     ) -> u8;
 }
@@ -48,7 +49,7 @@ pub fn write_model(table: &Table, instant: i64, model: &mut [f64; 32]) -> u8 {
             instants.len(),
             positions.as_ptr(),
             positions.len(),
-            instant,
+            Nanoseconds(instant),
             model,
         )
     }
@@ -56,7 +57,7 @@ pub fn write_model(table: &Table, instant: i64, model: &mut [f64; 32]) -> u8 {
 
 /// The refusal's number, 0 if there is none; then position and velocity by a model are written.
 pub fn write_evaluation(model: &[f64; 32], instant: i64, motion: &mut [f64; 6]) -> u8 {
-    orbit_evaluate(model, instant, motion)
+    orbit_evaluate(model, Nanoseconds(instant), motion)
 }
 
 /// The refusal's number, 0 if there is none; then position and velocity by a table are written.
@@ -69,7 +70,7 @@ pub fn write_propagation(table: &Table, instant: i64, motion: &mut [f64; 6]) -> 
             instants.len(),
             positions.as_ptr(),
             positions.len(),
-            instant,
+            Nanoseconds(instant),
             motion,
         )
     }
@@ -78,7 +79,7 @@ pub fn write_propagation(table: &Table, instant: i64, motion: &mut [f64; 6]) -> 
 /// The refusal's number, 0 if there is none; then the instant of the closest approach is written.
 pub fn write_closest(call: &Call, found: &mut i64) -> u8 {
     let (instants, positions) = (&call.table.instants, &call.table.positions);
-    let [x, y, z] = call.observer;
+    let [x, y, z] = call.observer.map(Metres);
     // SAFETY: each pointer is to as many numbers as its length says.
     unsafe {
         orbit_find_pca_time(
@@ -89,7 +90,7 @@ pub fn write_closest(call: &Call, found: &mut i64) -> u8 {
             x,
             y,
             z,
-            call.instant,
+            Nanoseconds(call.instant),
             found,
         )
     }

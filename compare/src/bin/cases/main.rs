@@ -11,6 +11,7 @@ mod samples;
 use compare::calls::{Call, Entry};
 use compare::expected;
 use compare::inputs::matrices::Matrix;
+use compare::inputs::paper;
 use compare::inputs::polynomials::Polynomial;
 use compare::inputs::random::Random;
 use compare::reference;
@@ -111,6 +112,12 @@ fn all_cases() -> Vec<Case> {
     let calls = calls.flatten();
     cases.extend(calls.map(|(entry, call)| Case::Of(entry, Box::new(call))));
     cases
+}
+
+/// The cases of one entry: those of the paper's table, then these.
+fn of(entry: Entry, calls: Vec<Call>) -> impl Iterator<Item = (Entry, Call)> {
+    let calls = paper::calls(entry).into_iter().chain(calls);
+    calls.map(move |call| (entry, call))
 }
 
 /// The cases that take no table and no samples.

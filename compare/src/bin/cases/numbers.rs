@@ -3,12 +3,13 @@
 use compare::inputs::doubles::{self, neighbours, power_of_two};
 use compare::inputs::integers;
 use compare::inputs::matrices::{self, Matrix};
+use compare::inputs::paper;
 use compare::inputs::polynomials::{self, Polynomial};
 use compare::inputs::random::Random;
 
 /// 60 doubles whose root is taken.
 pub fn roots(random: &mut Random) -> Vec<f64> {
-    let mut list = vec![2.25, power_of_two(-1074), -0.0];
+    let mut list = paper::roots();
     list.extend([0.0, 2.0, 3.0, 4.0, -1.0, f64::MAX, f64::MIN]);
     list.extend([f64::INFINITY, f64::NEG_INFINITY, -power_of_two(-1074)]);
     list.extend(neighbours(f64::MIN_POSITIVE));
@@ -54,11 +55,7 @@ pub fn doubles_to_truncate(random: &mut Random) -> Vec<f64> {
 
 /// 40 sums of Chebyshev polynomials.
 pub fn sums(random: &mut Random) -> Vec<Polynomial> {
-    let mut list = vec![
-        polynomials::single(2, 0.5),
-        polynomials::single(3, 0.5),
-        polynomials::single(9, 1.0),
-    ];
+    let mut list = paper::sums();
     list.extend((0..10).map(|j| polynomials::single(j, -1.0)));
     list.push(polynomials::single(4, -0.0));
     list.push(polynomials::single(4, f64::NAN));
@@ -72,10 +69,7 @@ pub fn sums(random: &mut Random) -> Vec<Polynomial> {
 
 /// 40 matrices that are inverted.
 pub fn matrices_to_invert(random: &mut Random) -> Vec<Matrix> {
-    let mut list = vec![
-        matrices::identity_without_row(4),
-        matrices::diagonal(doubles::PIVOT_LIMIT),
-    ];
+    let mut list = paper::matrices();
     let limits = neighbours(doubles::PIVOT_LIMIT);
     list.extend([matrices::diagonal(limits[0]), matrices::diagonal(limits[2])]);
     list.extend([matrices::identity(), matrices::nodes(matrices::even_node)]);

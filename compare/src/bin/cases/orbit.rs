@@ -1,6 +1,6 @@
 //! The cases of the tabulated orbit.
 
-use crate::faulty;
+use crate::{faulty, of};
 use compare::calls::{Call, Entry};
 use compare::inputs::doubles::power_of_two;
 use compare::inputs::faults::sound;
@@ -16,27 +16,19 @@ pub fn cases() -> Vec<(Entry, Call)> {
     let mut random = Random::new(70);
     let mut list = Vec::new();
     for entry in [Entry::GetChebyshevModel, Entry::PropagateEcef] {
-        let calls = by_tables(&mut random).into_iter();
-        list.extend(calls.map(|call| (entry, call)));
+        list.extend(of(entry, by_tables(&mut random)));
         list.extend(faulty::calls(&mut random, entry, true));
     }
-    let calls = by_models(&mut random).into_iter();
-    list.extend(calls.map(|call| (Entry::Evaluate, call)));
-    let calls = closest_approaches(&mut random).into_iter();
-    list.extend(calls.map(|call| (Entry::FindPcaTime, call)));
-    list.extend(faulty::calls(&mut random, Entry::FindPcaTime, true));
+    list.extend(of(Entry::Evaluate, by_models(&mut random)));
+    let entry = Entry::FindPcaTime;
+    list.extend(of(entry, closest_approaches(&mut random)));
+    list.extend(faulty::calls(&mut random, entry, true));
     list
 }
 
-/// Tables with an instant: 9 and 10 rows and the four window starts of the paper, edges, then one of each spacing.
+/// Tables with an instant: edges, then one of each spacing.
 fn by_tables(random: &mut Random) -> Vec<Call> {
-    let mut list = vec![sound(9, 1), sound(10, 1)];
-    list.extend([4, 5, 14, 15].map(|row| {
-        let mut call = sound(20, 1);
-        call.instant = call.table.instants[row];
-        call
-    }));
-    list.extend([with_equal_times(), with_two_close_rows()]);
+    let mut list = vec![with_equal_times(), with_two_close_rows()];
     list.extend([-INSTANT_LIMIT, INSTANT_LIMIT].map(|instant| Call {
         instant,
         ..sound(10, 1)
@@ -124,8 +116,8 @@ fn strange_model(random: &mut Random) -> Call {
 
 /// Satellites over an observer, tables in which nothing is found, equal ranges, and one of each spacing.
 fn closest_approaches(random: &mut Random) -> Vec<Call> {
-    let mut list = vec![sound(9, 1), sound(10, 1)];
-    list.extend([false, false, false, true, true, true].map(|uneven| overhead(random, uneven)));
+    let uneven = [false, false, false, true, true, true];
+    let mut list: Vec<Call> = uneven.map(|uneven| overhead(random, uneven)).into();
     list.extend([with_equal_times(), with_two_close_rows(), at_rest()]);
     list.extend((0..2).map(|_| closest::overflowing(random)));
     list.extend(SPACINGS.map(|spacing| small(random, spacing)));

@@ -1,8 +1,7 @@
 //! The cases of the means, the measured approach, the steepest slope and the slant range.
 
-use crate::faulty;
+use crate::{faulty, of};
 use compare::calls::{Call, Entry};
-use compare::checks::SAMPLES;
 use compare::inputs::doubles::{self, neighbours};
 use compare::inputs::random::Random;
 use compare::inputs::recordings::{self, FREQUENCIES, INSTANTS, Recording};
@@ -12,19 +11,14 @@ use compare::inputs::tables::SECOND;
 pub fn cases() -> Vec<(Entry, Call)> {
     let mut random = Random::new(80);
     let mut list = Vec::new();
-    let calls = means(&mut random).into_iter();
-    list.extend(calls.map(|call| (Entry::DownsampleData, call)));
-    list.extend(faulty::calls(&mut random, Entry::DownsampleData, true));
+    let entry = Entry::DownsampleData;
+    list.extend(of(entry, means(&mut random)));
+    list.extend(faulty::calls(&mut random, entry, true));
     for entry in [Entry::EstimateMeasuredPcaTime, Entry::SteepestSlope] {
-        let calls = slopes(&mut random).into_iter();
-        list.extend(calls.map(|call| (entry, call)));
+        list.extend(of(entry, slopes(&mut random)));
         list.extend(faulty::calls(&mut random, entry, true));
     }
-    for count in [SAMPLES, SAMPLES + 1] {
-        list.push((Entry::SteepestSlope, of_count(count)));
-    }
-    let calls = ranges(&mut random).into_iter();
-    list.extend(calls.map(|call| (Entry::EstimateSlantRange, call)));
+    list.extend(of(Entry::EstimateSlantRange, ranges(&mut random)));
     list
 }
 
@@ -40,11 +34,9 @@ fn call_of(instants: &[i64], frequencies: &[f64]) -> Call {
     }
 }
 
-/// The paper's two, means that overflow or are none, one sample, and one of each sort of instants, in areas that are longer.
+/// Means that overflow or are none, one sample, and one of each sort of instants, in areas that are longer.
 fn means(random: &mut Random) -> Vec<Call> {
     let mut list = vec![
-        call_of(&[5000, 0], &[10.0, 20.0]),
-        call_of(&[-1, 0], &[10.0, 20.0]),
         call_of(&[1, 2, SECOND], &[1e308, 1e308, -1e308]),
         call_of(&[7, 7, 7], &[f64::INFINITY, f64::NEG_INFINITY, 1.0]),
         call_of(&[-SECOND], &[-0.0]),
@@ -69,12 +61,10 @@ fn of_each_sort(random: &mut Random) -> Vec<Call> {
         .collect()
 }
 
-/// The paper's two, slopes at the bound and past it, equal ones, too few samples, and one of each sort of instants.
+/// A whole millisecond, slopes at the bound and past it, equal ones, too few samples, and one of each sort of instants.
 fn slopes(random: &mut Random) -> Vec<Call> {
     let seconds: Vec<i64> = (0..5).map(|k| k * SECOND).collect();
     let mut list = vec![
-        call_of(&seconds[..3], &[10.0, 5.0, 0.0]),
-        call_of(&[0, 450_000, 900_000], &[10.0, 5.0, 0.0]),
         call_of(&[0, 500_000, 1_000_000], &[10.0, 5.0, 0.0]),
         call_of(&seconds, &[0.0, -120.0, -240.0, -360.0, -360.0]),
         call_of(&seconds, &[0.0, -120.0, -241.0, -241.0, -242.0]),
@@ -88,16 +78,9 @@ fn slopes(random: &mut Random) -> Vec<Call> {
     list
 }
 
-/// So many samples, a nanosecond apart.
-fn of_count(count: usize) -> Call {
-    let instants: Vec<i64> = (0..count as i64).collect();
-    call_of(&instants, &vec![1.0; count])
-}
-
-/// The paper's slope, its neighbours, special numbers, then ordinary ones and patterns.
+/// Slopes about the least that counts, special numbers, then ordinary ones and patterns.
 fn ranges(random: &mut Random) -> Vec<Call> {
-    let mut pairs = vec![(1e9, -0.1)];
-    pairs.extend(neighbours(0.1).map(|slope| (1e9, slope)));
+    let mut pairs: Vec<(f64, f64)> = neighbours(0.1).map(|slope| (1e9, slope)).into();
     pairs.extend([0.0, -0.0, f64::NAN, f64::INFINITY].map(|slope| (1e9, slope)));
     pairs.extend([0.0, f64::MAX, f64::INFINITY, f64::NAN].map(|centre| (centre, -20.0)));
     pairs.extend((0..5).map(|_| (random.between(1e8, 1.2e10), random.between(-120.0, 0.0))));
