@@ -2,3 +2,4 @@
 pub mod Filled
 pub mod Search
 pub mod Outcomes
+pub mod Sums

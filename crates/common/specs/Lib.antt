@@ -1,6 +1,8 @@
--- What the definitions of every crate say: what an answer is, lists by their index, the search for the first of the best, and the doubles by name.
+-- What the definitions of every crate say: what an answer is, lists by their index, sums, spans of time, the search for the first of the best, and the doubles by name.
 pub mod Outcome
 pub mod Lists
 pub mod Search
 pub mod Numbers
 pub mod Rounded
+pub mod Sums
+pub mod Time

@@ -24,15 +24,14 @@ abbrev pub mapped : {A B : Type 0} → (A → B) → Outcome A → Outcome B
 mapped f (refused n) = refused n
 mapped f (answered a) = answered (f a)
 
--- by the first check that fails, 0 where none does
-abbrev pub outcome : {A : Type 0} → ℕ → A → Outcome A
-outcome zero a = answered a
-outcome (suc n) a = refused (suc n)
-
--- a refusal by a check, or what comes after the checks
+-- a refusal by the first check that fails, or where none does, which 0 says, what comes after the checks
 abbrev pub unlessRefused : {A : Type 0} → ℕ → Outcome A → Outcome A
 unlessRefused zero o = o
 unlessRefused (suc n) o = refused (suc n)
+
+-- the same of an answer that nothing else can refuse
+abbrev pub outcome : {A : Type 0} → ℕ → A → Outcome A
+outcome n a = unlessRefused n (answered a)
 
 -- a lent area with the values at its front, the rest of it untouched
 abbrev pub written : {A : Type 0} → List A → List A → List A
