@@ -10,7 +10,9 @@ use lib.Ieee.{Float, fin, binary64, round, ofInt, add, sub, mul, div}
 use Rattle.float.specs.Root.{root, rootOf, wholeRoot, rootIn}
 use Rattle.common.specs.Lists.{listOf}
 use Rattle.chebyshev.specs.Recurrence.{rounded, valueOf, slopeOf, weightedFrom, T, T′}
-use Rattle.samples.specs.Means.{Sample, recording, wholeSecond, bin, insert, seconds, offsets, frequencySum, meanInstant, meanFrequency, meanOf, means}
+use Rattle.common.specs.Numbers.{one}
+use Rattle.common.specs.Sums.{sumFrom}
+use Rattle.samples.specs.Means.{Sample, recording, wholeSecond, bin, insert, seconds, offsetSum, meanInstant, meanFrequency, meanOf, means}
 use Rattle.orbit.specs.Window.{startOf}
 
 -- what a line compares
@@ -39,10 +41,6 @@ minus m e = fin true m e
 -- 0.5
 abbrev half : Float
 half = plus 1 (negsuc 0)
-
--- 1.0
-abbrev one : Float
-one = plus 1 (pos 0)
 
 -- ten coefficients, all 0 but a 1 at place j
 abbrev single : ℕ → ℕ → List Float
@@ -79,7 +77,8 @@ startLines =
 -- "Means P: instants 5,000 and 0 with 10 and 20 Hz → 3,000 and 15; −1 lies in second −1, 0 in second 0"
 abbrev meansLines : List Case
 meansLines =
-    case (samples (means (recording (pos 5000 ∷ pos 0 ∷ []) (plus 5 (pos 1) ∷ plus 5 (pos 2) ∷ [])))) (samples (record { instant = pos 3000; frequency = plus 15 (pos 0) } ∷ []))
+    case (samples (means (recording (pos 5000 ∷ pos 0 ∷ []) (plus 5 (pos 1) ∷ plus 5 (pos 2) ∷ []))))
+    (samples (record { instant = pos 3000; frequency = plus 15 (pos 0) } ∷ []))
     ∷ case (whole (wholeSecond (negsuc 0))) (whole (negsuc 0))
     ∷ case (whole (wholeSecond (pos 0))) (whole (pos 0))
     ∷ []
@@ -90,5 +89,5 @@ table = rootLines ++ chebyshevLines ++ startLines ++ meansLines
 
 -- the definitions meet every line
 pub table-holds : map (λ (c : Case). c .given) table ≡ map (λ (c : Case). c .paper) table
-unfolding root rootOf wholeRoot rootIn round add sub mul div listOf weightedFrom T T′ recording bin insert seconds offsets frequencySum meanInstant meanFrequency meanOf means ofInt
+unfolding root rootOf wholeRoot rootIn round add sub mul div ofInt listOf weightedFrom T T′ recording bin insert seconds offsetSum sumFrom meanInstant meanFrequency meanOf means
 table-holds = refl

@@ -6,7 +6,8 @@ use native.Mathlib.Omega.{arith}
 use lib.Ieee.{Float, lt}
 use Rattle.common.specs.Outcome.{Outcome, Told, refused, answered}
 use Rattle.float.specs.Signs.{magnitudeOf}
-use Rattle.chebyshev.specs.Inverse.{Row, Matrix, cell, exchanged, leastPivot, singularRefusal, tooSmall, pivotRow, scaledAt, column, clearedBy, clearedColumn, Cleared, columnsFrom, order, unitRows, inverted}
+use Rattle.chebyshev.specs.Inverse.{Row, Matrix, cell, exchanged, leastPivot, singularRefusal, tooSmall, pivotRow, scaledAt, column, clearedBy, columnsFrom, order, unitRows, inverted}
+use Rattle.chebyshev.specs.Steps.{clearedColumn, Cleared}
 
 -- the pivot's test, by the row that was found and its magnitude
 pub small-is : (i j : ℕ) (t : Matrix) (x : Float) (b : Bool) → j ≡ pivotRow i t → x ≡ magnitudeOf (cell t j i) → lt x leastPivot ≡ b → tooSmall i t ≡ b

@@ -13,7 +13,8 @@ use lib.Ieee.{Float, nan, binary64, div, sub, mul}
 use lib.Dec.{eqb}
 use borrow.Author.Tests.{eq-eqb, ne-eqb}
 use native.Mathlib.Omega.{arith}
-use Rattle.chebyshev.specs.Inverse.{Row, Matrix, cell, divided, reduced, cleared, exchanged, RowPut}
+use Rattle.chebyshev.specs.Inverse.{Row, Matrix, cell, divided, reduced, cleared, exchanged}
+use Rattle.chebyshev.specs.Steps.{RowPut}
 
 pub divided-step : (p : Float) (l : Row) (c : ℕ) → c < length l
     → (let v = div binary64 (getD l c nan) p in take (c + 1) (set l c v) ++ divided p (drop (c + 1) (set l c v)) ≡ take c l ++ divided p (drop c l))

@@ -11,7 +11,7 @@ use Rattle.chebyshev.specs.Recurrence.{rounded, weighted, weightedFrom}
 use Rattle.chebyshev.specs.Inverse.{Row, Matrix, cell, column}
 use Rattle.common.specs.Numbers.{nought}
 use Rattle.chebyshev.specs.Ideal.{transposed}
-use Rattle.chebyshev.specs.Coefficients.{scaledOnto}
+use Rattle.chebyshev.specs.Steps.{scaledOnto}
 use Rattle.common.proofs.Filled.{length-listOf, getD-listOf}
 use Rattle.chebyshev.proofs.Sums.{weighted-step, weighted-end}
 

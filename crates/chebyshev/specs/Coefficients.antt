@@ -1,8 +1,6 @@
 -- The coefficients of a Chebyshev sum through ten values at ten nodes, by the inverse of the nodes' matrix.
 use mathlib.Core.List.{[]}
 use lib.ListN.{getD, replicate}
-use lib.Ieee.{Float, nan}
-use Rattle.common.specs.Rounded.{_⊕_, _⊗_}
 use Rattle.common.specs.Numbers.{nought}
 use Rattle.common.specs.Lists.{listOf}
 use Rattle.common.specs.Outcome.{Outcome, refused, answered}
@@ -28,7 +26,3 @@ coefficientsAnswer (answered v) x y z = record {
   cy = coefficientsBy v y;
   cz = coefficientsBy v z;
 }
-
--- x times a column, added number by number
-abbrev pub scaledOnto : Row → Row → Float → Row
-scaledOnto c column x = listOf (λ j. getD c j nan ⊕ getD column j nan ⊗ x) terms 0

@@ -1,11 +1,10 @@
 -- The inverse of a ten by ten matrix of doubles by Gauss-Jordan elimination, each column's pivot found as document 01 says. A matrix is a
 -- list of ten rows of ten doubles, and each operation on doubles rounds once.
-use Prim.Native.Nat.{ℕ, zero, suc, _+_, _-_, _*_, _/_, _%_, _<_}
-use mathlib.Core.Path.{_≡_}
-use mathlib.Core.Bool.{Bool, true, false, not, cond}
+use Prim.Native.Nat.{ℕ, zero, suc, _+_, _-_, _*_, _/_, _%_}
+use mathlib.Core.Bool.{Bool, true, false, cond}
 use mathlib.Core.List.{List, [], _∷_}
 use lib.Dec.{eqb}
-use lib.ListN.{length, getD, set, replicate}
+use lib.ListN.{getD, set, replicate}
 use lib.Ieee.{Float, nan, binary64, lt, ofBits}
 use Rattle.common.specs.Rounded.{_⊖_, _⊗_, _⊘_}
 use Rattle.common.specs.Numbers.{nought, one}
@@ -85,20 +84,9 @@ cleared i ps r (k ∷ ks) (x ∷ xs) = cond (eqb r i) x (reduced k x ps) ∷ cle
 abbrev pub clearedBy : ℕ → Row → Matrix → Matrix
 clearedBy i ks m = cleared i (getD m i []) 0 ks m
 
--- one column of the elimination: t, the matrix, with its pivot row exchanged into row i and divided by the pivot, and column i cleared out of
--- the other rows; m, which is t itself or the inverse so far, with the same done to it
+-- m, which is the matrix t itself or the inverse so far, with t's pivot row exchanged into row i and that row divided by the pivot
 abbrev pub scaledPivot : ℕ → Matrix → Matrix → Matrix
 scaledPivot i t m = let j = pivotRow i t in scaledAt i (cell (exchanged i j t) i i) (exchanged i j m)
-
--- column i cleared out of m by the factors that t has
-abbrev pub clearedColumn : ℕ → Matrix → Matrix → Matrix
-clearedColumn i t m = clearedBy i (column i (scaledPivot i t t)) (scaledPivot i t m)
-
--- what one column leaves: the answer, whether the pivot was taken, and both matrices
-pub record Cleared (i : ℕ) (t v : Matrix) (taken : Bool) (t′ v′ : Matrix) : Type 0 where
-  pub answer : taken ≡ not (tooSmall i t)
-  pub matrix : tooSmall i t ≡ false → t′ ≡ clearedColumn i t t
-  pub inverse : tooSmall i t ≡ false → v′ ≡ clearedColumn i t v
 
 -- the n columns from i on: the rows of the inverse, or the refusal
 unfoldable pub columnsFrom : ℕ → ℕ → Matrix → Matrix → Outcome Matrix
@@ -128,12 +116,6 @@ inverted a = columnsFrom order 0 a unitRows
 -- "in the inverse's answer it is 100 doubles, row after row": number 10 r + c is row r, column c
 abbrev pub flat : Matrix → Row
 flat m = listOf (λ k. cell m (k / order) (k % order)) (order * order) 0
-
--- a row put at its place among the hundred, the other numbers as they were
-pub record RowPut (old : Row) (row : Row) (r : ℕ) (new : Row) : Type 0 where
-  pub long : length new ≡ length old
-  pub before : (k : ℕ) → k < order * r → getD new k nan ≡ getD old k nan
-  pub within : (c : ℕ) → c < order → getD new (order * r + c) nan ≡ getD row c nan
 
 -- the rows that stand beside the paper's number: "an array ... that the language makes stand beside it is all zeros"
 abbrev pub rowsOf : Outcome Matrix → Matrix

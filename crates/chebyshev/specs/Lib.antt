@@ -3,3 +3,4 @@ pub mod Recurrence
 pub mod Inverse
 pub mod Ideal
 pub mod Coefficients
+pub mod Steps

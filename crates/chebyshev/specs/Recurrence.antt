@@ -1,5 +1,5 @@
 -- The Chebyshev polynomials by DLMF 18.9's recurrence, their derivatives by the recurrence differentiated, and sums of ten of them.
--- Each is written once, over an arithmetic; `rounded` is a double's, each operation rounded once.
+-- Each is written once, over an arithmetic; `rounded` is a double's, each operation rounded once. Request 2.8 will put an exact one beside it.
 use Prim.Native.Nat.{ℕ, zero, suc}
 use mathlib.Core.List.{List, [], _∷_}
 use lib.Ieee.{Float}

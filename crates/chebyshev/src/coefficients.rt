@@ -2,7 +2,8 @@
 ghost use mathlib.Core.Path.{_≡_};
 ghost use Rattle.chebyshev.specs.Inverse.{inverted, rowsOf};
 ghost use Rattle.chebyshev.specs.Ideal.{idealMatrix};
-ghost use Rattle.chebyshev.specs.Coefficients.{coefficientsBy, coefficientsAnswer, scaledOnto};
+ghost use Rattle.chebyshev.specs.Coefficients.{coefficientsBy, coefficientsAnswer};
+ghost use Rattle.chebyshev.specs.Steps.{scaledOnto};
 use crate::ideal::ideal_columns;
 use crate::inverse::gauss_jordan;
 use crate::recurrence::weighted_sum;

@@ -3,8 +3,12 @@ ghost use mathlib.Core.Path.{_≡_};
 ghost use Prim.Native.Nat.{_<_};
 ghost use lib.ListN.{length};
 ghost use Rattle.common.specs.Outcome.{refusalIn};
-ghost use Rattle.chebyshev.specs.Inverse.{exchanged, divided, reduced, pivotRow, scaledAt, column, clearedBy, Cleared, RowPut, flat, inverted, rowsOf, answerOf};
+ghost use Rattle.chebyshev.specs.Inverse.{exchanged, divided, reduced, pivotRow, scaledAt, column, clearedBy, flat, inverted, rowsOf, answerOf};
+ghost use Rattle.chebyshev.specs.Steps.{Cleared, RowPut};
 use float::magnitude;
+
+// A pivot of a smaller magnitude is refused.
+const LEAST_PIVOT: f64 = 1e-12;
 
 // Rows i and j exchanged, by value.
 fn swap_rows(m: &mut [[f64; 10]; 10], i: usize, j: usize)
@@ -102,7 +106,7 @@ fn clear_column(t: &mut [[f64; 10]; 10], v: &mut [[f64; 10]; 10], i: usize) -> b
     ensures { λ r. ⌜ Cleared i (now (t .entry)) (now (v .entry)) r (now (t .exit)) (now (v .exit)) ⌝ }
 {
     let j = pivot_row(t, i);
-    if magnitude(t[j][i]) < 1e-12 {
+    if magnitude(t[j][i]) < LEAST_PIVOT {
         return false;
     }
     swap_rows(t, i, j);

@@ -14,17 +14,32 @@ pub fn values_at(tau: f64) -> [f64; 10]
     t
 }
 
-// The derivatives of T0 to T9 at tau, by the differentiated recurrence.
-pub fn slopes_at(tau: f64) -> [f64; 10]
+// The derivatives of T0 to T9 at tau by the differentiated recurrence, where t holds T0 to T9 themselves.
+fn slopes_from(tau: f64, t: [f64; 10]) -> [f64; 10]
+    requires { ⌜ t ≡ polynomials rounded tau ⌝ }
     ensures { λ r. ⌜ r ≡ derivatives rounded tau ⌝ }
 {
-    let t = values_at(tau);
     let mut dt = [0.0; 10];
     dt[1] = 1.0;
     for j in 2..10 {
         dt[j] = 2.0 * t[j - 1] + 2.0 * tau * dt[j - 1] - dt[j - 2];
     }
     dt
+}
+
+// T0 to T9 at a τ, and their slopes there for each unit of τ.
+pub struct Polynomials {
+    pub values: [f64; 10],
+    pub slopes: [f64; 10],
+}
+
+// T0 to T9 at tau and their derivatives, each worked out once.
+pub fn polynomials_at(tau: f64) -> Polynomials
+    ensures { λ r. ⌜ (r .values ≡ polynomials rounded tau) × (r .slopes ≡ derivatives rounded tau) ⌝ }
+{
+    let values = values_at(tau);
+    let slopes = slopes_from(tau, values);
+    Polynomials { values, slopes }
 }
 
 // The sum of c[j] * t[j], from 0.0, j from 0 to 9.
@@ -48,8 +63,11 @@ pub struct Evaluation {
 pub fn evaluate_chebyshev(c: [f64; 10], tau: f64) -> Evaluation
     ensures { λ r. ⌜ (r .value ≡ valueOf rounded c tau) × (r .slope ≡ slopeOf rounded c tau) ⌝ }
 {
+    let p = polynomials_at(tau);
+    let values = p.values;
+    let slopes = p.slopes;
     Evaluation {
-        value: weighted_sum(c, values_at(tau)),
-        slope: weighted_sum(c, slopes_at(tau)),
+        value: weighted_sum(c, values),
+        slope: weighted_sum(c, slopes),
     }
 }

@@ -9,7 +9,8 @@ use borrow.Author.Tests.{eq-eqb}
 use lib.Dec.{T, T-not, ltb, eqb}
 use lib.ListN.{getD}
 use lib.Ieee.Fits.{and-l, and-r}
-use Rattle.checks.specs.Entries.{Check, check, firstFailing, orElse}
+use Rattle.checks.specs.Entries.{Check, check, firstFailing}
+use Rattle.checks.specs.Checked.{orElse}
 
 -- no check has the number 0
 unfoldable pub numbered : List Check → Bool

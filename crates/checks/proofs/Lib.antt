@@ -2,4 +2,4 @@
 mod Lists
 mod Orders
 pub mod First
-pub mod Passed
+pub mod Checked

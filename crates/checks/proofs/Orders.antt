@@ -9,22 +9,23 @@ use lib.Signed.{ltZ, leZ}
 use mir.Syntax.{w64}
 use mir.Val.{SFits, toZ, ofZ}
 use mir.ValLaws.{toZ-ofZ}
+use Rattle.checks.specs.Limits.{farthestInstant}
 use Rattle.checks.specs.Checks.{beyond}
 
 -- an instant past the limit after 1970, and one that is not
-pub after : (t : ℤ) → SFits w64 t → ltZ (pos 4000000000000000000) (toZ w64 (ofZ w64 t)) ≡ true → true ≡ beyond t
+pub after : (t : ℤ) → SFits w64 t → ltZ (pos farthestInstant) (toZ w64 (ofZ w64 t)) ≡ true → true ≡ beyond t
 after t f h = go t (rw (toZ-ofZ w64 t f) at h)
   where
-    go : (t : ℤ) → ltZ (pos 4000000000000000000) t ≡ true → true ≡ beyond t
+    go : (t : ℤ) → ltZ (pos farthestInstant) t ≡ true → true ≡ beyond t
     go (pos n) h = sym h
     go (negsuc n) h = absurd (false≢true h)
 
-pub before : (t : ℤ) → SFits w64 t → ltZ (pos 4000000000000000000) (toZ w64 (ofZ w64 t)) ≡ false → ltZ (toZ w64 (ofZ w64 t)) (negsuc 3999999999999999999) ≡ beyond t
+pub before : (t : ℤ) → SFits w64 t → ltZ (pos farthestInstant) (toZ w64 (ofZ w64 t)) ≡ false → ltZ (toZ w64 (ofZ w64 t)) (negsuc 3999999999999999999) ≡ beyond t
 before t f h = rw (toZ-ofZ w64 t f) (go t (rw (toZ-ofZ w64 t f) at h))
   where
-    go : (t : ℤ) → ltZ (pos 4000000000000000000) t ≡ false → ltZ t (negsuc 3999999999999999999) ≡ beyond t
+    go : (t : ℤ) → ltZ (pos farthestInstant) t ≡ false → ltZ t (negsuc 3999999999999999999) ≡ beyond t
     go (pos n) h = sym h
-    go (negsuc n) h = sym (leb·suc-suc 4000000000000000000 n)
+    go (negsuc n) h = sym (leb·suc-suc farthestInstant n)
 
 not-less : (a b : ℕ) → not (ltb a b) ≡ leb b a
 not-less a b = go (ltb a b) refl

@@ -8,6 +8,7 @@ use lib.Signed.{ltZ}
 use lib.ListN.{length}
 use lib.Ieee.{Float, nan, inf, fin, lt, le}
 use Rattle.float.specs.Signs.{magnitudeOf}
+use Rattle.units.specs.declared.Observer.{Observer}
 use Rattle.checks.specs.Limits.{leastCoordinates, mostCoordinates, axes, mostSamples, farthestInstant, largestComponent, leastComponent}
 use Rattle.common.specs.Numbers.{nought}
 
@@ -18,7 +19,10 @@ any p (x ∷ xs) = p x || any p xs
 
 -- 1. "Fewer than 10 or more than 4,096 coordinates, or a position slice that is not three times as long as the instants"
 abbrev pub miscounted : List ℤ → List Float → Bool
-miscounted instants positions = ltb (length instants) leastCoordinates || ltb mostCoordinates (length instants) || not (eqb (length positions) (axes * length instants))
+miscounted instants positions =
+    ltb (length instants) leastCoordinates
+    || ltb mostCoordinates (length instants)
+    || not (eqb (length positions) (axes * length instants))
 
 -- 2. "No sample, more than 4,096, or two sample slices of unequal length"
 abbrev pub unsampled : List ℤ → List Float → Bool
@@ -49,6 +53,10 @@ inside c = lt (magnitudeOf c) leastComponent
 -- 6. of one place: a component is unreachable, or all three are inside
 abbrev pub misplaced : Float → Float → Float → Bool
 misplaced x y z = (unreachable x || unreachable y || unreachable z) || (inside x && inside y && inside z)
+
+-- 6. of the observer
+abbrev pub observerMisplaced : Observer → Bool
+observerMisplaced o = misplaced (o .x .0) (o .y .0) (o .z .0)
 
 -- 6. over a slice of positions, three doubles each; a slice of another length is refused by 1
 unfoldable pub anyMisplaced : List Float → Bool

@@ -1,11 +1,13 @@
 -- "Every entry makes those checks, in this order, whose inputs it takes": the order is written once here for each entry, by number, a line for each of the
 -- inputs that a check looks at.
-use Prim.Native.Nat.{ℕ, zero, suc}
+use Prim.Native.Nat.{ℕ}
 use mathlib.Core.Bool.{Bool, cond}
 use mathlib.Core.List.{List, [], _∷_}
 use lib.IntN.{ℤ}
 use lib.Ieee.{Float}
-use Rattle.checks.specs.Checks.{any, miscounted, unsampled, tooShort, beyond, unrising, misplaced, anyMisplaced, notFinite, noCentre}
+use Rattle.units.specs.declared.Hertz.{Hertz}
+use Rattle.units.specs.declared.Observer.{Observer}
+use Rattle.checks.specs.Checks.{any, miscounted, unsampled, tooShort, beyond, unrising, anyMisplaced, observerMisplaced, notFinite, noCentre}
 
 -- a check by its number, and whether it fails
 pub record Check : Type 0 where
@@ -20,11 +22,6 @@ check n b = record { number = n; fails = b }
 unfoldable pub firstFailing : List Check → ℕ
 firstFailing [] = 0
 firstFailing (c ∷ cs) = cond (c .fails) (c .number) (firstFailing cs)
-
--- one check more: a refusal so far stands, and without one a check that fails gives its number
-abbrev pub orElse : ℕ → Check → ℕ
-orElse zero c = cond (c .fails) (c .number) 0
-orElse (suc n) c = suc n
 
 -- `evaluate`: the instant
 abbrev pub evaluationChecks : ℤ → List Check
@@ -41,14 +38,14 @@ propagationChecks instants positions t =
     ∷ []
 
 -- `find_pca_time`: the observer too
-abbrev pub closestChecks : List ℤ → List Float → Float → Float → Float → ℤ → List Check
-closestChecks instants positions ox oy oz t =
+abbrev pub closestChecks : List ℤ → List Float → Observer → ℤ → List Check
+closestChecks instants positions observer t =
     check 1 (miscounted instants positions)
     ∷ check 4 (any beyond instants)
     ∷ check 4 (beyond t)
     ∷ check 5 (unrising instants)
     ∷ check 6 (anyMisplaced positions)
-    ∷ check 6 (misplaced ox oy oz)
+    ∷ check 6 (observerMisplaced observer)
     ∷ []
 
 -- `downsample_data`: the samples and the two areas
@@ -67,8 +64,8 @@ samplesChecks samples frequencies =
     ∷ []
 
 -- `fit_satellite`: table, samples, observer, centre frequency and measured instant
-abbrev pub fitChecks : List ℤ → List Float → List ℤ → List Float → Float → Float → Float → Float → ℤ → List Check
-fitChecks instants positions samples frequencies ox oy oz f0 measured =
+abbrev pub fitChecks : List ℤ → List Float → List ℤ → List Float → Observer → Hertz → ℤ → List Check
+fitChecks instants positions samples frequencies observer f0 measured =
     check 1 (miscounted instants positions)
     ∷ check 2 (unsampled samples frequencies)
     ∷ check 4 (any beyond instants)
@@ -76,14 +73,14 @@ fitChecks instants positions samples frequencies ox oy oz f0 measured =
     ∷ check 4 (beyond measured)
     ∷ check 5 (unrising instants)
     ∷ check 6 (anyMisplaced positions)
-    ∷ check 6 (misplaced ox oy oz)
+    ∷ check 6 (observerMisplaced observer)
     ∷ check 7 (any notFinite frequencies)
-    ∷ check 7 (noCentre f0)
+    ∷ check 7 (noCentre (f0 .0))
     ∷ []
 
 -- the pass entry: the same without the instant, and the two areas
-abbrev pub passChecks : List ℤ → List Float → List ℤ → List Float → Float → Float → Float → Float → List ℤ → List Float → List Check
-passChecks instants positions samples frequencies ox oy oz f0 instantArea frequencyArea =
+abbrev pub passChecks : List ℤ → List Float → List ℤ → List Float → Observer → Hertz → List ℤ → List Float → List Check
+passChecks instants positions samples frequencies observer f0 instantArea frequencyArea =
     check 1 (miscounted instants positions)
     ∷ check 2 (unsampled samples frequencies)
     ∷ check 3 (tooShort samples instantArea frequencyArea)
@@ -91,7 +88,7 @@ passChecks instants positions samples frequencies ox oy oz f0 instantArea freque
     ∷ check 4 (any beyond samples)
     ∷ check 5 (unrising instants)
     ∷ check 6 (anyMisplaced positions)
-    ∷ check 6 (misplaced ox oy oz)
+    ∷ check 6 (observerMisplaced observer)
     ∷ check 7 (any notFinite frequencies)
-    ∷ check 7 (noCentre f0)
+    ∷ check 7 (noCentre (f0 .0))
     ∷ []

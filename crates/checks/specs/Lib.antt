@@ -2,4 +2,4 @@
 pub mod Limits
 pub mod Checks
 pub mod Entries
-pub mod Passed
+pub mod Checked

@@ -3,6 +3,7 @@ use Prim.Native.Nat.{ℕ}
 use mathlib.Core.Bool.{false}
 use lib.IntN.{pos}
 use lib.Ieee.{Float, fin}
+use Rattle.common.specs.Numbers.{million}
 
 -- "Fewer than 10 or more than 4,096 coordinates"
 abbrev pub leastCoordinates : ℕ
@@ -28,6 +29,6 @@ farthestInstant = 4000000000000000000
 abbrev pub largestComponent : Float
 largestComponent = fin false 390625 (pos 8)
 
--- "all three magnitudes under 1,000,000 m": 5 ^ 6 * 2 ^ 6
+-- "all three magnitudes under 1,000,000 m"
 abbrev pub leastComponent : Float
-leastComponent = fin false 15625 (pos 6)
+leastComponent = million

@@ -1,6 +1,8 @@
 // The first check that fails, for each entry: its number, or 0.
 ghost use mathlib.Core.Path.{_≡_};
-ghost use Rattle.checks.specs.Entries.{check, firstFailing, orElse, evaluationChecks, propagationChecks, closestChecks, meansChecks, samplesChecks, fitChecks, passChecks};
+ghost use Rattle.checks.specs.Checked.{orElse};
+ghost use Rattle.checks.specs.Entries.{check, firstFailing, evaluationChecks, propagationChecks, closestChecks};
+ghost use Rattle.checks.specs.Entries.{meansChecks, samplesChecks, fitChecks, passChecks};
 use crate::instants::any_beyond;
 use crate::instants::beyond;
 use crate::instants::miscounted;
@@ -53,7 +55,8 @@ pub fn refuse_means(
     instant_area: &[i64],
     frequency_area: &[f64],
 ) -> u8
-    ensures { λ r. ⌜ r ≡ firstFailing (meansChecks (now (samples .entry)) (now (frequencies .entry)) (now («instant_area» .entry)) (now («frequency_area» .entry))) ⌝ }
+    ensures { λ r. ⌜ r ≡
+        firstFailing (meansChecks (now (samples .entry)) (now (frequencies .entry)) (now («instant_area» .entry)) (now («frequency_area» .entry))) ⌝ }
 {
     let refusal = or_else(0, 2, unsampled(samples, frequencies));
     let refusal = or_else(refusal, 3, too_short(samples, instant_area, frequency_area));
@@ -75,7 +78,7 @@ pub fn refuse_closest(
     observer: Observer,
     instant: Nanoseconds,
 ) -> u8
-    ensures { λ r. ⌜ r ≡ firstFailing (closestChecks (now (instants .entry)) (now (positions .entry)) (observer .x .0) (observer .y .0) (observer .z .0) (instant .0)) ⌝ }
+    ensures { λ r. ⌜ r ≡ firstFailing (closestChecks (now (instants .entry)) (now (positions .entry)) observer (instant .0)) ⌝ }
 {
     let refusal = or_else(0, 1, miscounted(instants, positions));
     let refusal = or_else(refusal, 4, any_beyond(instants));
@@ -99,7 +102,9 @@ pub fn refuse_fit(
     f0: Hertz,
     measured: Nanoseconds,
 ) -> u8
-    ensures { λ r. ⌜ r ≡ firstFailing (fitChecks (now (instants .entry)) (now (positions .entry)) (now (samples .entry)) (now (frequencies .entry)) (observer .x .0) (observer .y .0) (observer .z .0) (f0 .0) (measured .0)) ⌝ }
+    ensures { λ r. ⌜ r ≡
+        firstFailing (fitChecks (now (instants .entry)) (now (positions .entry)) (now (samples .entry)) (now (frequencies .entry))
+        observer f0 (measured .0)) ⌝ }
 {
     let refusal = or_else(0, 1, miscounted(instants, positions));
     let refusal = or_else(refusal, 2, unsampled(samples, frequencies));
@@ -128,7 +133,9 @@ pub fn refuse_pass(
     instant_area: &[i64],
     frequency_area: &[f64],
 ) -> u8
-    ensures { λ r. ⌜ r ≡ firstFailing (passChecks (now (instants .entry)) (now (positions .entry)) (now (samples .entry)) (now (frequencies .entry)) (observer .x .0) (observer .y .0) (observer .z .0) (f0 .0) (now («instant_area» .entry)) (now («frequency_area» .entry))) ⌝ }
+    ensures { λ r. ⌜ r ≡
+        firstFailing (passChecks (now (instants .entry)) (now (positions .entry)) (now (samples .entry)) (now (frequencies .entry)) observer f0
+        (now («instant_area» .entry)) (now («frequency_area» .entry))) ⌝ }
 {
     let refusal = or_else(0, 1, miscounted(instants, positions));
     let refusal = or_else(refusal, 2, unsampled(samples, frequencies));

@@ -1,6 +1,7 @@
 // Checks 1 to 5: counts, lengths and instants.
 ghost use mathlib.Core.Path.{_≡_};
 ghost use Rattle.checks.specs.Checks.{any, miscounted, unsampled, tooShort, beyond, unrising};
+use crate::limits::AXES;
 use crate::limits::EARLIEST_INSTANT;
 use crate::limits::LATEST_INSTANT;
 use crate::limits::LEAST_COORDINATES;
@@ -18,7 +19,7 @@ pub(crate) fn miscounted(instants: &[i64], positions: &[f64]) -> bool
     if n > MOST_COORDINATES {
         return true;
     }
-    positions.len() != 3 * n
+    positions.len() != AXES * n
 }
 
 // Check 2: no sample, too many, or slices of unequal length.

@@ -1,10 +1,13 @@
-// The numbers of document 01's checks, each named once; specs/Limits.antt has their twins.
+// The numbers of document 01's checks by name; specs/Limits.antt has their twins (both ends of an instant's range as one magnitude).
 
 // The fewest coordinates that a table may have.
 pub const LEAST_COORDINATES: usize = 10;
 
 // The most coordinates that a table may have.
 pub const MOST_COORDINATES: usize = 4096;
+
+// Doubles in a position.
+pub const AXES: usize = 3;
 
 // The most samples that a recording may have.
 pub const MOST_SAMPLES: usize = 4096;

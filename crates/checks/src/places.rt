@@ -1,6 +1,7 @@
 // Check 6: coordinates and the observer, in metres.
 ghost use mathlib.Core.Path.{_≡_};
 ghost use Rattle.checks.specs.Checks.{unreachable, inside, misplaced, anyMisplaced};
+use crate::limits::AXES;
 use crate::limits::LARGEST_COMPONENT;
 use crate::limits::LEAST_COMPONENT;
 use float::magnitude;
@@ -45,9 +46,9 @@ pub(crate) fn misplaced(x: f64, y: f64, z: f64) -> bool
 pub(crate) fn any_misplaced(positions: &[f64]) -> bool
     ensures { λ r. ⌜ r ≡ anyMisplaced (now (positions .entry)) ⌝ }
 {
-    let places = positions.len() / 3;
+    let places = positions.len() / AXES;
     for k in 0..places {
-        let at = 3 * k;
+        let at = AXES * k;
         if misplaced(positions[at], positions[at + 1], positions[at + 2]) {
             return true;
         }

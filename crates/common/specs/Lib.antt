@@ -1,4 +1,5 @@
--- What the definitions of every crate say: what an answer is, lists by their index, sums, spans of time, the search for the first of the best, and the doubles by name.
+-- What the definitions of every crate say: what an answer is, lists by their index, sums, spans of time, the search for the first of the best,
+-- and the doubles by name with their rounded arithmetic.
 pub mod Outcome
 pub mod Lists
 pub mod Search

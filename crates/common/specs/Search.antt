@@ -14,8 +14,8 @@ unfoldable pub firstBest : {A : Type 0} → (A → A → Bool) → A → List A 
 firstBest better best [] = best
 firstBest better best (x ∷ xs) = firstBest better (betterOf better best x) xs
 
--- what a comparison must be for the law: nothing is better than itself; better than a better one is better; and what is better than y is better than any z that is
--- not better than y, if z is better than anything at all (a NaN is not)
+-- what a comparison must be for the law: nothing is better than itself; better than a better one is better; and what is better than y is better
+-- than any z that is not better than y, if z is better than anything at all (a NaN is not)
 pub record Comparison {A : Type 0} (better : A → A → Bool) : Type 0 where
   pub never-itself : (x : A) → T (not (better x x))
   pub through : (x y z : A) → T (better x y) → T (better y z) → T (better x z)

@@ -7,104 +7,117 @@ use native.Mathlib.Omega.{arith}
 use lib.Dec.{T}
 use lib.IntN.{ℤ}
 use lib.ListN.{length}
-use lib.Ieee.{Float, binary64, sub, lt}
-use Rattle.float.specs.Signs.{Within, magnitudeOf}
-use Rattle.common.specs.Search.{firstBest}
-use Rattle.float.proofs.Bounds.{sub-within}
+use lib.Ieee.{Float, lt}
+use Rattle.common.specs.Rounded.{_⊖_}
+use Rattle.common.specs.Numbers.{nought, largestFinite, five, fifteen, twentieth, thousandth}
 use Rattle.common.specs.Outcome.{refused, answered}
-use Rattle.common.specs.Numbers.{nought, largestFinite}
+use Rattle.common.specs.Search.{firstBest}
+use Rattle.float.specs.Signs.{magnitudeOf}
+use Rattle.float.specs.Bounds.{Within}
+use Rattle.float.proofs.Bounds.{sub-within}
+use Rattle.orbit.specs.declared.stages.Stage.{Stage}
 use Rattle.orbit.specs.declared.stages.LeastSoFar.{LeastSoFar}
-use Rattle.orbit.specs.Fitting.{Fitting}
-use Rattle.orbit.specs.Fit.{Trial, Best, noneYet, found, firstLeast, five, fifteen, tenth, twentieth, thousandth, hundredThousandth, shiftAt, shiftsFrom, around, coarse, fine, micro, reportOf, fitBy}
-use Rattle.orbit.specs.Stages.{stateOf, state, updates, stageFrom, reportFrom, finished}
-use Rattle.orbit.proofs.Shifts.{weaken, stage-within}
-use Rattle.orbit.proofs.Updates.{state-search, updates-append, Below, below-least, updates-within}
+use Rattle.orbit.specs.Bounds.{FitAreas, SmallStage, farthestCentre, farthestCoarse, farthestStart, farthestFine}
+use Rattle.orbit.specs.Fit.{Trial, Best, noneYet, found, firstLeast, shiftsOf, coarseStage, fineStage, microStage, coarse, Basis, reportOfBest, fitByTrials}
+use Rattle.orbit.specs.Stages.{stateOf, state, updates, afterStage, afterCoarse, afterFurther, refined, reportOfState, finished}
+use Rattle.orbit.proofs.Shifts.{weaken}
+use Rattle.orbit.proofs.Updates.{state-search, updates-append, Below, below-least, stage-kept}
 use Rattle.orbit.proofs.FirstLeast.{leastFrom, still-found}
 use Rattle.orbit.proofs.ListOfShifts.{stageAfter, fit-by-stages}
 
--- a stage's start: a little before a shift
-pub start-within : (a b : ℕ) (x y : Float) → a + b ≤ 12000 → Within a x → Within b y → Within 12000 (sub binary64 x y)
-start-within a b x y l h k = weaken (a + b) 12000 (sub binary64 x y) l (sub-within a b x y (omega arith) h k)
-
 -- the values may have changed, but not in number
-pub still-fitting : {instants samples : List ℤ} {positions frequencies values : List Float} (values′ : List Float) → length values′ ≡ length values → Fitting instants positions samples frequencies values → Fitting instants positions samples frequencies values′
+pub still-fitting : {instants samples : List ℤ} {positions frequencies values : List Float} (values′ : List Float) → length values′ ≡ length values → FitAreas instants positions samples frequencies values → FitAreas instants positions samples frequencies values′
 still-fitting values′ e h = record { table = h .table; sampled = h .sampled; room = omega (arith, h .room, e) }
 
--- the fine and the micro stage from a state, as the code runs them
-pub fine-from : (try : Float → Trial) (s : LeastSoFar) → updates s (map try (shiftsFrom 101 0 (sub binary64 (s .shift) twentieth) thousandth)) ≡ stageFrom try fine s
-unfolding fine
-fine-from try s = refl
+-- ---- every stage is small
 
-pub micro-from : (try : Float → Trial) (s : LeastSoFar) → updates s (map try (shiftsFrom 201 0 (sub binary64 (s .shift) thousandth) hundredThousandth)) ≡ stageFrom try micro s
-unfolding micro
-micro-from try s = refl
+-- a stage's start: a little before a shift
+start-within : (a b : ℕ) (x y : Float) → a + b ≤ farthestStart → Within a x → Within b y → Within farthestStart (x ⊖ y)
+start-within a b x y l h k = weaken (a + b) farthestStart (x ⊖ y) l (sub-within a b x y (omega arith) h k)
+
+pub coarse-fits : (centre : Float) → Within farthestCentre centre → SmallStage (coarseStage centre)
+coarse-fits centre h = record { start = start-within farthestCentre 15 centre fifteen (omega arith) h (omega arith); increment = omega arith; steps = omega arith }
+
+pub fine-fits : (best : Float) → Within farthestCoarse best → SmallStage (fineStage best)
+fine-fits best h = record { start = start-within farthestCoarse 1 best twentieth (omega arith) h (omega arith); increment = omega arith; steps = omega arith }
+
+pub micro-fits : (best : Float) → Within farthestFine best → SmallStage (microStage best)
+micro-fits best h = record { start = start-within farthestFine 1 best thousandth (omega arith) h (omega arith); increment = omega arith; steps = omega arith }
 
 module _ (try : Float → Trial) where
-  -- what was found: a further stage from it
-  found-stage : (f : Float → List Float) (t : Trial) → state (stageAfter try f (found t)) ≡ stageFrom try f (stateOf t)
-  found-stage f t = sym (state-search try (found t) (f (t .shift)))
+  -- ---- what was found: a further stage from it
 
-  found-report : (n : ℕ) (t : Trial) (L : List Float) → reportOf n (leastFrom try (found t) L) ≡ answered (reportFrom n (state (leastFrom try (found t) L)))
-  found-report n t L = let r = still-found try t L in go (leastFrom try (found t) L) (r .0) (r .1)
+  found-stage : (f : Float → Stage) (t : Trial) → state (stageAfter try f (found t)) ≡ afterFurther try f (stateOf t)
+  found-stage f t = sym (state-search try (found t) (shiftsOf (f (t .shift))))
+
+  found-report : (basis : Basis) (t : Trial) (L : List Float) → reportOfBest basis (leastFrom try (found t) L) ≡ answered (reportOfState basis (state (leastFrom try (found t) L)))
+  found-report basis t L = let r = still-found try t L in go (leastFrom try (found t) L) (r .0) (r .1)
     where
-      go : (b : Best) (u : Trial) → b ≡ found u → reportOf n b ≡ answered (reportFrom n (state b))
+      go : (b : Best) (u : Trial) → b ≡ found u → reportOfBest basis b ≡ answered (reportOfState basis (state b))
       go b u e = rw e refl
 
-  both-stages : (n : ℕ) (t : Trial) → reportOf n (stageAfter try micro (stageAfter try fine (found t))) ≡ answered (reportFrom n (stageFrom try micro (stageFrom try fine (stateOf t))))
-  both-stages n t = let r = still-found try t (fine (t .shift)) in go (stageAfter try fine (found t)) (r .0) (r .1) (found-stage fine t)
+  both-stages : (basis : Basis) (t : Trial) → reportOfBest basis (stageAfter try microStage (stageAfter try fineStage (found t))) ≡ answered (reportOfState basis (refined try (stateOf t)))
+  both-stages basis t = let r = still-found try t (shiftsOf (fineStage (t .shift))) in go (stageAfter try fineStage (found t)) (r .0) (r .1) (found-stage fineStage t)
     where
-      go : (b : Best) (u : Trial) → b ≡ found u → state b ≡ stageFrom try fine (stateOf t) → reportOf n (stageAfter try micro b) ≡ answered (reportFrom n (stageFrom try micro (stageFrom try fine (stateOf t))))
+      go : (b : Best) (u : Trial) → b ≡ found u → state b ≡ afterFurther try fineStage (stateOf t) → reportOfBest basis (stageAfter try microStage b) ≡ answered (reportOfState basis (refined try (stateOf t)))
       go b u e s =
-          ap (λ (x : Best). reportOf n (stageAfter try micro x)) e
-          ∙ found-report n u (micro (u .shift))
-          ∙ ap (λ (x : LeastSoFar). answered (reportFrom n x)) (found-stage micro u ∙ ap (stageFrom try micro) (sym (ap state e) ∙ s))
+          ap (λ (x : Best). reportOfBest basis (stageAfter try microStage x)) e
+          ∙ found-report basis u (shiftsOf (microStage (u .shift)))
+          ∙ ap (λ (x : LeastSoFar). answered (reportOfState basis x)) (found-stage microStage u ∙ ap (afterFurther try microStage) (sym (ap state e) ∙ s))
 
-  finish-is : (n : ℕ) (b : Best) → Below b → reportOf n (stageAfter try micro (stageAfter try fine b)) ≡ finished try n (state b)
+  finish-is : (basis : Basis) (b : Best) → Below b → reportOfBest basis (stageAfter try microStage (stageAfter try fineStage b)) ≡ finished try basis (state b)
   unfolding lt firstBest
-  finish-is n noneYet h = refl
-  finish-is n (found t) h = both-stages n t ∙ go (lt (t .rmse) largestFinite) h
+  finish-is basis noneYet h = refl
+  finish-is basis (found t) h = both-stages basis t ∙ go (lt (t .rmse) largestFinite) h
     where
-      go : (v : Bool) → T v → answered (reportFrom n (stageFrom try micro (stageFrom try fine (stateOf t)))) ≡ cond v (answered (reportFrom n (stageFrom try micro (stageFrom try fine (stateOf t))))) (refused 10)
+      go : (v : Bool) → T v → answered (reportOfState basis (refined try (stateOf t))) ≡ cond v (answered (reportOfState basis (refined try (stateOf t)))) (refused 10)
       go true h = refl
       go false h = absurd h
 
   -- the fit, from the three doubles after the coarse stage
-  pub fit-is : (n : ℕ) (centre : Float) → finished try n (updates (state noneYet) (map try (coarse centre))) ≡ fitBy try n centre
-  fit-is n centre =
-      ap (finished try n) (state-search try noneYet (coarse centre))
-      ∙ sym (finish-is n (firstLeast try (coarse centre)) (below-least try (coarse centre)))
-      ∙ sym (fit-by-stages try n centre)
+  pub fit-is : (basis : Basis) (centre : Float) → finished try basis (afterCoarse try centre) ≡ fitByTrials try basis centre
+  fit-is basis centre =
+      ap (finished try basis) (state-search try noneYet (coarse centre))
+      ∙ sym (finish-is basis (firstLeast try (coarse centre)) (below-least try (coarse centre)))
+      ∙ sym (fit-by-stages try basis centre)
 
   -- ---- the coarse stage, about one centre and about two
 
-  pub coarse-one : (centre : Float) (s : LeastSoFar) → lt five (magnitudeOf centre) ≡ false → updates s (map try (shiftsFrom 301 0 (sub binary64 centre fifteen) tenth)) ≡ updates s (map try (coarse centre))
-  unfolding coarse around updates
-  coarse-one centre s h =
-      sym (ap (λ (v : Bool). updates s (map try (around centre ++ cond v (around nought) []))) h
-      ∙ ap (updates s) (map-append try (around centre) [])
-      ∙ updates-append s (map try (around centre)) [])
+  pub coarse-one : (centre : Float) → lt five (magnitudeOf centre) ≡ false → afterStage try (coarseStage centre) (state noneYet) ≡ afterCoarse try centre
+  unfolding coarse updates
+  coarse-one centre h =
+      let first = shiftsOf (coarseStage centre) in
+      let second = shiftsOf (coarseStage nought) in
+      sym (ap (λ (v : Bool). updates (state noneYet) (map try (first ++ cond v second []))) h
+      ∙ ap (updates (state noneYet)) (map-append try first [])
+      ∙ updates-append (state noneYet) (map try first) [])
 
-  pub coarse-two : (centre : Float) (s : LeastSoFar) → lt five (magnitudeOf centre) ≡ true → updates (updates s (map try (shiftsFrom 301 0 (sub binary64 centre fifteen) tenth))) (map try (shiftsFrom 301 0 (sub binary64 nought fifteen) tenth)) ≡ updates s (map try (coarse centre))
-  unfolding coarse around
-  coarse-two centre s h =
-      sym (ap (λ (v : Bool). updates s (map try (around centre ++ cond v (around nought) []))) h
-      ∙ ap (updates s) (map-append try (around centre) (around nought))
-      ∙ updates-append s (map try (around centre)) (map try (around nought)))
+  pub coarse-two : (centre : Float) → lt five (magnitudeOf centre) ≡ true → afterStage try (coarseStage nought) (afterStage try (coarseStage centre) (state noneYet)) ≡ afterCoarse try centre
+  unfolding coarse
+  coarse-two centre h =
+      let first = shiftsOf (coarseStage centre) in
+      let second = shiftsOf (coarseStage nought) in
+      sym (ap (λ (v : Bool). updates (state noneYet) (map try (first ++ cond v second []))) h
+      ∙ ap (updates (state noneYet)) (map-append try first second)
+      ∙ updates-append (state noneYet) (map try first) (map try second))
 
-  -- ---- every start is small
+  -- ---- and what each leaves is small
 
   module _ (named : (x : Float) → try x .shift ≡ x) where
-    pub stage-kept : (a n m : ℕ) (s : LeastSoFar) (start increment : Float) → a ≤ 1000000 → m ≤ 301 → a + 301 ≤ n → Within n (s .shift) → Within a start → Within 1 increment → Within n (updates s (map try (shiftsFrom m 0 start increment)) .shift)
-    stage-kept a n m s start increment small few fit h k l =
-        updates-within try named n s m 0 start increment h (λ j u. weaken (a + 301) n (shiftAt start increment j) fit (stage-within a start increment j small (omega arith) k l))
+    about-small : (a : ℕ) (centre : Float) (s : LeastSoFar) → a ≤ farthestCentre → Within a centre → Within farthestCoarse (s .shift .0) → Within farthestCoarse (afterStage try (coarseStage centre) s .shift .0)
+    about-small a centre s l h k = stage-kept try named (a + 15) farthestCoarse (coarseStage centre) s (omega arith) (omega arith) (omega arith) k (sub-within a 15 centre fifteen (omega arith) h (omega arith)) (omega arith)
 
-    pub coarse-small : (centre : Float) → Within 10001 centre → Within 10400 (updates (state noneYet) (map try (coarse centre)) .shift)
+    pub coarse-small : (centre : Float) → Within farthestCentre centre → Within farthestCoarse (afterCoarse try centre .shift .0)
     coarse-small centre h = go (lt five (magnitudeOf centre)) refl
       where
-        first : Within 10400 (updates (state noneYet) (map try (shiftsFrom 301 0 (sub binary64 centre fifteen) tenth)) .shift)
-        first = stage-kept 10016 10400 301 (state noneYet) (sub binary64 centre fifteen) tenth (omega arith) (omega arith) (omega arith) (omega arith) (sub-within 10001 15 centre fifteen (omega arith) h (omega arith)) (omega arith)
+        first : Within farthestCoarse (afterStage try (coarseStage centre) (state noneYet) .shift .0)
+        first = about-small farthestCentre centre (state noneYet) (omega arith) h (omega arith)
 
-        go : (v : Bool) → lt five (magnitudeOf centre) ≡ v → Within 10400 (updates (state noneYet) (map try (coarse centre)) .shift)
-        go false e = subst (λ (s : LeastSoFar). Within 10400 (s .shift)) (coarse-one centre (state noneYet) e) first
-        go true e = subst (λ (s : LeastSoFar). Within 10400 (s .shift)) (coarse-two centre (state noneYet) e)
-            (stage-kept 15 10400 301 (updates (state noneYet) (map try (shiftsFrom 301 0 (sub binary64 centre fifteen) tenth))) (sub binary64 nought fifteen) tenth (omega arith) (omega arith) (omega arith) first (sub-within 0 15 nought fifteen (omega arith) (omega arith) (omega arith)) (omega arith))
+        go : (v : Bool) → lt five (magnitudeOf centre) ≡ v → Within farthestCoarse (afterCoarse try centre .shift .0)
+        go false e = subst (λ (s : LeastSoFar). Within farthestCoarse (s .shift .0)) (coarse-one centre e) first
+        go true e = subst (λ (s : LeastSoFar). Within farthestCoarse (s .shift .0)) (coarse-two centre e) (about-small 0 nought (afterStage try (coarseStage centre) (state noneYet)) (omega arith) (omega arith) first)
+
+    pub fine-small : (s : LeastSoFar) → Within farthestCoarse (s .shift .0) → Within farthestFine (afterFurther try fineStage s .shift .0)
+    fine-small s h =
+        stage-kept try named (farthestCoarse + 1) farthestFine (fineStage (s .shift .0)) s (omega arith) (omega arith) (omega arith) (weaken farthestCoarse farthestFine (s .shift .0) (omega arith) h)
+        (sub-within farthestCoarse 1 (s .shift .0) twentieth (omega arith) h (omega arith)) (omega arith)

@@ -8,7 +8,7 @@ use Prim.Native.Nat.{ℕ, _<_}
 use native.Mathlib.Decide.{ℕ-discrete}
 use native.Mathlib.Omega.{arith}
 use lib.Dec.{T, T-not, not-T}
-use lib.ListN.{length, getD}
+use lib.ListN.{length}
 use lib.Ieee.{Float, nan, lt, le}
 use lib.Ieee.Fits.{and-l, and-r, and-i}
 use Rattle.common.specs.Search.{firstBest, Comparison, FirstOfBest, Searched, kept, won}
@@ -17,20 +17,15 @@ use Rattle.common.proofs.Search.{one-first, found-among, first-of-mapped, searc
 use Rattle.float.proofs.Leasts.{and-not, least-first}
 use Rattle.common.specs.Outcome.{refused, answered}
 use Rattle.common.specs.Numbers.{largestFinite}
-use Rattle.orbit.specs.Fit.{Trial, usable, Best, noneYet, found, rmseOf, enoughOf, smaller, firstLeast, coarse, further, coarseFine, shifts, report, reportOf, fitBy}
+use Rattle.orbit.specs.Demand3.{place, Wins, NoCoarse}
+use Rattle.orbit.specs.Fit.{Trial, usable, Best, noneYet, found, rmseOf, enoughOf, smaller, firstLeast, coarse, further, coarseFine, shifts, Basis, reportOfTrial, reportOfBest, fitByTrials}
+use Rattle.orbit.specs.declared.stages.Stage.{Stage}
 
 -- a smaller RMSE compares as the search asks
 smaller-compares : Comparison smaller
 smaller-compares = least-first enoughOf rmseOf
 
 -- ---- the winner
-
--- of the places below n: i is usable, no other usable place has a smaller RMSE, and each usable place before i has a larger one
-pub record Wins (at : ℕ → Trial) (n i : ℕ) : Type 0 where
-  pub inside : i < n
-  pub can-be-used : T (usable (at i))
-  pub least : (j : ℕ) → j < n → j ≢ i → T (usable (at j)) → T (not (lt (at j .rmse) (at i .rmse)))
-  pub first : (j : ℕ) → j < i → T (usable (at j)) → T (lt (at i .rmse) (at j .rmse))
 
 -- the place that wins is the first of the best, and the other way round
 module _ (at : ℕ → Trial) (n i : ℕ) where
@@ -73,10 +68,6 @@ abbrev pub After : (ℕ → Trial) → ℕ → Best → Type 0
 After at n noneYet = (j : ℕ) → j < n → T (not (usable (at j)))
 After at n (found t) = (i : ℕ) × (t ≡ at i) × Wins at n i
 
--- the trial at a place of a list of shifts
-abbrev pub place : (Float → Trial) → List Float → ℕ → Trial
-place try L j = try (getD L j nan)
-
 -- the law of the first least: `noneYet` exactly where no place of the list is usable, and else the trial at the place that wins
 pub first-least : (try : Float → Trial) (L : List Float) → After (place try L) (length L) (firstLeast try L)
 first-least try L = go (first-of-mapped smaller smaller-compares noneYet (λ x. found (try x)) nan L)
@@ -109,15 +100,11 @@ still-found try t L =
     found-among smaller (found t) (λ j. found (place try L j)) 0 (length L) (λ b. (u : Trial) × (b ≡ found u)) (first-of-mapped smaller smaller-compares (found t) (λ x. found (try x)) nan L) (t, refl)
     (λ j l h. (place try L j, refl))
 
--- no coarse shift is usable
-abbrev pub NoCoarse : (Float → Trial) → Float → Type 0
-NoCoarse try centre = (j : ℕ) → j < length (coarse centre) → T (not (usable (place try (coarse centre) j)))
-
-module _ (try : Float → Trial) (n : ℕ) (centre : Float) where
+module _ (try : Float → Trial) (basis : Basis) (centre : Float) where
   found-later : (s t : List Float) (x : Trial) → firstLeast try s ≡ found x → (u : Trial) × (firstLeast try (s ++ t) ≡ found u)
   found-later s t x e = let r = still-found try x t in (r .0, next-stage try s t ∙ ap (λ (b : Best). leastFrom try b t) e ∙ r .1)
 
-  none-later : (f : Float → List Float) (s : List Float) → firstLeast try s ≡ noneYet → firstLeast try (s ++ further f (firstLeast try s)) ≡ noneYet
+  none-later : (f : Float → Stage) (s : List Float) → firstLeast try s ≡ noneYet → firstLeast try (s ++ further f (firstLeast try s)) ≡ noneYet
   unfolding firstBest
   none-later f s e = next-stage try s (further f (firstLeast try s)) ∙ ap (λ (b : Best). leastFrom try b (further f b)) e
 
@@ -136,31 +123,31 @@ module _ (try : Float → Trial) (n : ℕ) (centre : Float) where
   -- ---- the outcome
 
   -- refusal 10 exactly when no coarse shift is usable
-  pub refused-exactly : (fitBy try n centre ≡ refused 10) ↔ NoCoarse try centre
-  unfolding fitBy
-  refused-exactly = (λ e. forth (firstLeast try (coarse centre)) refl e (first-least try (coarse centre)), λ none. ap (reportOf n) (none-in-the-end (none-found try (coarse centre) none)))
+  pub refused-exactly : (fitByTrials try basis centre ≡ refused 10) ↔ NoCoarse try centre
+  unfolding fitByTrials
+  refused-exactly = (λ e. forth (firstLeast try (coarse centre)) refl e (first-least try (coarse centre)), λ none. ap (reportOfBest basis) (none-in-the-end (none-found try (coarse centre) none)))
     where
-      answers : (u : Trial) → firstLeast try (shifts try centre) ≡ found u → fitBy try n centre ≡ refused 10 → ⊥
-      answers u p q = let z : _≡_ {A = ℕ} 0 1 = cc (ap (reportOf n) p) in omega arith
+      answers : (u : Trial) → firstLeast try (shifts try centre) ≡ found u → fitByTrials try basis centre ≡ refused 10 → ⊥
+      answers u p q = let z : _≡_ {A = ℕ} 0 1 = cc (ap (reportOfBest basis) p) in omega arith
 
-      forth : (b : Best) → firstLeast try (coarse centre) ≡ b → fitBy try n centre ≡ refused 10 → After (place try (coarse centre)) (length (coarse centre)) b → NoCoarse try centre
+      forth : (b : Best) → firstLeast try (coarse centre) ≡ b → fitByTrials try basis centre ≡ refused 10 → After (place try (coarse centre)) (length (coarse centre)) b → NoCoarse try centre
       forth noneYet p e a = a
       forth (found x) p e a = let r = in-the-end x p in absurd (answers (r .0) (r .1) e)
 
   -- the place i of the list of the shifts wins, and the report is that of its shift
   pub record Chosen (i : ℕ) : Type 0 where
     pub wins : Wins (place try (shifts try centre)) (length (shifts try centre)) i
-    pub reported : fitBy try n centre ≡ answered (report n (place try (shifts try centre) i))
+    pub reported : fitByTrials try basis centre ≡ answered (reportOfTrial basis (place try (shifts try centre) i))
 
   -- otherwise there is exactly one such place
-  pub exactly-one : fitBy try n centre ≢ refused 10 → (i : ℕ) × Chosen i × ((k : ℕ) → Chosen k → k ≡ i)
-  unfolding fitBy
+  pub exactly-one : fitByTrials try basis centre ≢ refused 10 → (i : ℕ) × Chosen i × ((k : ℕ) → Chosen k → k ≡ i)
+  unfolding fitByTrials
   exactly-one ne = go (firstLeast try (shifts try centre)) refl (first-least try (shifts try centre))
     where
       go : (b : Best) → firstLeast try (shifts try centre) ≡ b → After (place try (shifts try centre)) (length (shifts try centre)) b → (i : ℕ) × Chosen i × ((k : ℕ) → Chosen k → k ≡ i)
-      go noneYet p a = absurd (ne (ap (reportOf n) p))
+      go noneYet p a = absurd (ne (ap (reportOfBest basis) p))
       go (found t) p a = (
         a .0,
-        record { wins = a .2; reported = ap (reportOf n) p ∙ ap (λ (x : Trial). answered (report n x)) (a .1) },
+        record { wins = a .2; reported = ap (reportOfBest basis) p ∙ ap (λ (x : Trial). answered (reportOfTrial basis x)) (a .1) },
         λ k c. one-winner (place try (shifts try centre)) (length (shifts try centre)) (a .0) k (a .2) (c .wins),
       )

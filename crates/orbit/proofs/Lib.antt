@@ -4,7 +4,7 @@ pub mod Models
 mod Offsets
 pub mod FirstRange
 mod Ranges
-mod Totals
+mod Collected
 mod Shifts
 mod Trials
 mod Updates

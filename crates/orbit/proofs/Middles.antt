@@ -12,16 +12,18 @@ use Rattle.common.specs.Outcome.{Outcome, refused, answered, written}
 use Rattle.samples.specs.Means.{Sample, recording, means, instants, frequencies}
 use Rattle.samples.specs.Approach.{noFloor, leastSlope}
 use Rattle.samples.proofs.Seconds.{some-means, few-means}
-use Rattle.samples.proofs.OwnSeconds.{Limited, limited-means}
+use Rattle.samples.proofs.OwnSeconds.{limited-means}
+use Rattle.samples.specs.Runs.{Limited}
 use Rattle.samples.proofs.Recordings.{record-length, record-instants}
-use Rattle.checks.specs.Passed.{Samples}
+use Rattle.checks.specs.Checked.{Samples}
 use Rattle.common.specs.Numbers.{nought}
 use Rattle.orbit.specs.Passes.{approachOr, middleOf, measuredBy}
+use Rattle.checks.specs.Limits.{farthestInstant}
 
-pub measured-near : (ts : List ℤ) (fs : List Float) → ((k : ℕ) → natAbs (getD ts k (pos 0)) ≤ 4000000000000000000) → natAbs (measuredBy ts fs) ≤ 4000000000000000000
+pub measured-near : (ts : List ℤ) (fs : List Float) → ((k : ℕ) → natAbs (getD ts k (pos 0)) ≤ farthestInstant) → natAbs (measuredBy ts fs .instant .0) ≤ farthestInstant
 measured-near ts fs h = go (lt (leastSlope noFloor ts fs .slope) nought)
   where
-    go : (b : Bool) → natAbs (approachOr (middleOf ts) (cond b (answered (getD ts (leastSlope noFloor ts fs .middle) (pos 0))) (refused 9))) ≤ 4000000000000000000
+    go : (b : Bool) → natAbs (approachOr (middleOf ts) (cond b (answered (getD ts (leastSlope noFloor ts fs .middle) (pos 0))) (refused 9)) .instant .0) ≤ farthestInstant
     go true = h (leastSlope noFloor ts fs .middle)
     go false = h (length ts / 2)
 
@@ -44,7 +46,7 @@ means-sampled ts fs h =
       some = let u = some-means S (omega (arith, n, h .some)) in omega (arith, u, a);
       few = let u = few-means S in omega (arith, u, a, n, h .few);
       same = b ∙ sym a;
-      near = limited-means 4000000000000000000 S (subst (Limited 4000000000000000000) (sym i) (h .near));
+      near = limited-means S (subst Limited (sym i) (h .near));
     }
 
 -- the front of an area on which n values were written

@@ -7,16 +7,18 @@ use mathlib.Core.List.{List, [], _∷_, _++_}
 use Prim.Native.Nat.{ℕ}
 use lib.IntN.{ℤ, pos, negsuc, pos-ne-negsuc}
 use lib.ListN.{length, getD, drop, replicate}
-use lib.Ieee.{Float, nan, fin, ofInt, lt, le}
+use lib.Ieee.{Float, nan, fin, ofInt, add, div, lt, le}
 use Rattle.float.specs.Signs.{magnitudeOf}
 use Rattle.checks.specs.Checks.{any, unrising, anyMisplaced, notFinite}
 use Rattle.checks.specs.Entries.{firstFailing}
-use Rattle.samples.specs.Means.{Sample, recording, bin, means, instants, Alike}
+use Rattle.common.specs.Sums.{sumFrom}
+use Rattle.samples.specs.Means.{Sample, recording, bin, insert, seconds, offsetSum, meanInstant, meanFrequency, meanOf, means, instants, Alike}
 use Rattle.common.specs.Numbers.{nought}
 use Rattle.orbit.specs.Window.{evenTolerance}
 use Rattle.orbit.specs.Residuals.{Inputs}
 use Rattle.orbit.specs.Passes.{passRefusal, passInstants}
-use Rattle.orbit.proofs.Demand3.{TwoCalls, two-calls}
+use Rattle.orbit.specs.Demand3.{TwoCalls}
+use Rattle.orbit.proofs.Demand3.{two-calls}
 
 abbrev hertz : ℕ → Float
 hertz n = fin false n (pos 0)
@@ -54,7 +56,7 @@ differ e = pos-ne-negsuc 700000000 0 (ap (λ (S : List Sample). getD (instants S
 
 -- their means. Second −1: 499,999 whole µs before its base, −1 ns, halved toward zero. Second 0: 500,000 and 700,000 µs before its base, a third of the sum
 pub mixed-means : means mixed ≡ record { instant = negsuc 249999000; frequency = hertz 9 } ∷ record { instant = pos 300000000; frequency = hertz 7 } ∷ []
-unfolding means recording ofInt
+unfolding recording means seconds insert bin meanOf meanInstant meanFrequency offsetSum sumFrom add div ofInt
 mixed-means = refl
 
 -- ---- the other inputs: ten coordinates a minute apart, at 7,000 km on each axis, and an observer at 6,400 km on one
@@ -64,11 +66,13 @@ minutes = pos 0 ∷ pos 60000000000 ∷ pos 120000000000 ∷ pos 180000000000 �
 
 abbrev pub others : Inputs
 others = record {
-  tolerance = evenTolerance;
   instants = minutes;
   positions = replicate 30 (fin false 109375 (pos 6));
-  observer = record { x = record { 0 = fin false 3125 (pos 11) }; y = record { 0 = nought }; z = record { 0 = nought } };
-  f0 = fin false 1953125 (pos 9);
+  settings = record {
+    observer = record { x = record { 0 = fin false 3125 (pos 11) }; y = record { 0 = nought }; z = record { 0 = nought } };
+    f0 = record { 0 = fin false 1953125 (pos 9) };
+    tolerance = evenTolerance;
+  };
 }
 
 -- the first call's areas have room for the five samples and hold zeros; the second's are longer and hold other things

@@ -8,26 +8,33 @@ use lib.Dec.{T}
 use lib.ListN.{length}
 use lib.Ieee.{Float, lt}
 use lib.Ieee.Fits.{and-r}
-use Rattle.float.specs.Signs.{Within}
+use Rattle.float.specs.Bounds.{Within}
+use Rattle.common.specs.Lists.{listOf}
 use Rattle.common.specs.Search.{betterOf, firstBest}
 use Rattle.orbit.specs.declared.stages.LeastSoFar.{LeastSoFar}
 use Rattle.common.specs.Numbers.{largestFinite}
-use Rattle.orbit.specs.Fit.{Trial, Best, noneYet, found, smaller, firstLeast, shiftAt, shiftsFrom}
-use Rattle.orbit.specs.Stages.{stateOf, state, update, updates}
-use Rattle.orbit.proofs.FirstLeast.{After, place, first-least, leastFrom}
+use Rattle.orbit.specs.Fit.{Trial, Best, noneYet, found, smaller, firstLeast, shiftAt, shiftsOf}
+use Rattle.orbit.specs.Stages.{stateOf, state, update, updates, afterStage}
+use Rattle.orbit.proofs.Shifts.{weaken, stage-within}
+use Rattle.orbit.specs.Demand3.{place}
+use Rattle.orbit.proofs.FirstLeast.{After, first-least, leastFrom}
+use Rattle.orbit.specs.Bounds.{mostSteps, farthestStart}
+use Rattle.orbit.specs.declared.stages.Stage.{Stage}
 
-module _ (try : Float → Trial) where
-  pub stage-step : (n k : ℕ) (start increment : Float) (s : LeastSoFar) → k < n
-      → updates (update s (try (shiftAt start increment k))) (map try (shiftsFrom (n - (k + 1)) (k + 1) start increment)) ≡ updates s (map try (shiftsFrom (n - k) k start increment))
-  unfolding updates shiftsFrom
-  stage-step n k start increment s h =
-      let e : n - k ≡ suc (n - (k + 1)) = omega arith in
+module _ (try : Float → Trial) (stage : Stage) where
+  -- the shifts of a stage from step k on: one step more
+  pub stage-step : (k : ℕ) (s : LeastSoFar) → k < stage .steps
+      → updates (update s (try (shiftAt stage k))) (map try (listOf (shiftAt stage) (stage .steps - (k + 1)) (k + 1))) ≡ updates s (map try (listOf (shiftAt stage) (stage .steps - k) k))
+  unfolding updates listOf
+  stage-step k s h =
+      let e : stage .steps - k ≡ suc (stage .steps - (k + 1)) = omega arith in
       rw e
 
-  pub stage-end : (n k : ℕ) (start increment : Float) (s : LeastSoFar) → n ≤ k → updates s (map try (shiftsFrom (n - k) k start increment)) ≡ s
-  unfolding updates shiftsFrom
-  stage-end n k start increment s h =
-      let e : n - k ≡ 0 = omega arith in
+  -- and the end
+  pub stage-end : (k : ℕ) (s : LeastSoFar) → stage .steps ≤ k → updates s (map try (listOf (shiftAt stage) (stage .steps - k) k)) ≡ s
+  unfolding updates listOf
+  stage-end k s h =
+      let e : stage .steps - k ≡ 0 = omega arith in
       rw e
 
 -- ---- the three doubles are the search's best
@@ -67,16 +74,24 @@ below-least try L = go (firstLeast try L) (first-least try L)
     go (found t) a = subst (λ (x : Trial). T (lt (x .rmse) largestFinite)) (sym (a .1)) (and-r (place try L (a .0) .enough) (lt (place try L (a .0) .rmse) largestFinite) (a .2 .can-be-used))
 
 -- the shift that is kept is the start's or one of those tried
-updated-within : (n : ℕ) (s : LeastSoFar) (t : Trial) → Within n (s .shift) → Within n (t .shift) → Within n (update s t .shift)
-updated-within n s t h k = go (t .enough && lt (t .rmse) (s .rmse))
+updated-within : (n : ℕ) (s : LeastSoFar) (t : Trial) → Within n (s .shift .0) → Within n (t .shift) → Within n (update s t .shift .0)
+updated-within n s t h k = go (t .enough && lt (t .rmse) (s .rmse .0))
   where
-    go : (v : Bool) → Within n (cond v (stateOf t) s .shift)
+    go : (v : Bool) → Within n (cond v (stateOf t) s .shift .0)
     go true = k
     go false = h
 
-pub updates-within : (try : Float → Trial) → ((x : Float) → try x .shift ≡ x) → (n : ℕ) (s : LeastSoFar) (m k : ℕ) (start increment : Float) → Within n (s .shift) → ((j : ℕ) → j < k + m → Within n (shiftAt start increment j)) → Within n (updates s (map try (shiftsFrom m k start increment)) .shift)
-unfolding updates shiftsFrom
-updates-within try named n s zero k start increment h f = h
-updates-within try named n s (suc m) k start increment h f =
-    updates-within try named n (update s (try (shiftAt start increment k))) m (k + 1) start increment
-    (updated-within n s (try (shiftAt start increment k)) h (subst (Within n) (sym (named (shiftAt start increment k))) (f k (omega arith)))) (λ j u. f j (omega arith))
+module _ (try : Float → Trial) (named : (x : Float) → try x .shift ≡ x) (n : ℕ) (at : ℕ → Float) where
+  updates-within : (s : LeastSoFar) (m k : ℕ) → Within n (s .shift .0) → ((j : ℕ) → j < k + m → Within n (at j)) → Within n (updates s (map try (listOf at m k)) .shift .0)
+  unfolding updates listOf
+  updates-within s zero k h f = h
+  updates-within s (suc m) k h f =
+      updates-within (update s (try (at k))) m (k + 1)
+      (updated-within n s (try (at k)) h (subst (Within n) (sym (named (at k))) (f k (omega arith)))) (λ j u. f j (omega arith))
+
+-- so after a stage that starts within a, whose shifts are then within a + mostSteps, the least so far is within n
+pub stage-kept : (try : Float → Trial) → ((x : Float) → try x .shift ≡ x) → (a n : ℕ) (stage : Stage) (s : LeastSoFar) → a ≤ farthestStart → stage .steps ≤ mostSteps → a + mostSteps ≤ n
+    → Within n (s .shift .0) → Within a (stage .start .0) → Within 1 (stage .increment .0) → Within n (afterStage try stage s .shift .0)
+unfolding shiftsOf
+stage-kept try named a n stage s small few fit h k l =
+    updates-within try named n (shiftAt stage) s (stage .steps) 0 h (λ j u. weaken (a + mostSteps) n (shiftAt stage j) fit (stage-within a stage j small (omega arith) k l))

@@ -6,14 +6,16 @@ use lib.IntN.{ℤ, pos, negℤ, _+ℤ_, _*ℤ_}
 use lib.Ieee.{Float, nan, lt}
 use Rattle.common.specs.Rounded.{_⊕_, _⊖_, _⊗_}
 use Rattle.common.specs.Numbers.{largestFinite}
+use Rattle.common.specs.Time.{second}
 use Rattle.common.specs.Lists.{listOf}
 use Rattle.common.specs.Search.{firstBest}
+use Rattle.units.specs.declared.Seconds.{Seconds}
 use Rattle.units.specs.declared.Position.{Position}
 use Rattle.units.specs.declared.Observer.{Observer}
 use Rattle.common.specs.Outcome.{Outcome, refused, answered, outcome}
 use Rattle.checks.specs.Entries.{firstFailing, closestChecks}
-use Rattle.samples.specs.Means.{second}
-use Rattle.orbit.specs.declared.closest.Nearest.{Nearest}
+use Rattle.orbit.specs.declared.closest.Offsets.{Offsets}
+use Rattle.orbit.specs.declared.closest.LeastRange.{LeastRange}
 use Rattle.orbit.specs.declared.closest.ClosestApproach.{ClosestApproach}
 use Rattle.orbit.specs.declared.closest.ClosestApproach.the-variants.{At, Refused}
 use Rattle.orbit.specs.Window.{evenTolerance}
@@ -37,45 +39,45 @@ rangeIn o (refused n) = nan
 rangeIn o (answered m) = squaredRange o (m .position)
 
 -- its squared range is below the other's
-abbrev pub nearer : Nearest → Nearest → Bool
+abbrev pub nearer : LeastRange → LeastRange → Bool
 nearer a b = lt (a .range) (b .range)
 
 -- a stage begins with its centre: "only squared ranges below the largest finite double count; a stage without one keeps its centre"
-abbrev pub centred : ℤ → Nearest
+abbrev pub centred : ℤ → LeastRange
 centred offset = record { range = largestFinite; offset = offset }
 
--- a minute, in seconds
-abbrev pub minute : ℕ
-minute = 60
+-- "over −50 to 50 minutes by minutes", in seconds
+abbrev pub minutes : Offsets
+minutes = record { first = negℤ (pos 3000); step = 60; count = 101 }
 
--- −50 minutes, in seconds
-abbrev pub firstMinute : ℤ
-firstMinute = negℤ (pos 3000)
+-- "then ±60 s by seconds", about a centre
+abbrev pub secondsAbout : ℤ → Offsets
+secondsAbout centre = record { first = centre +ℤ negℤ (pos 60); step = 1; count = 121 }
 
--- as many minutes as from −50 to 50
-abbrev pub minuteSteps : ℕ
-minuteSteps = 101
+-- the offset k steps after the first
+abbrev pub offsetAt : Offsets → ℕ → ℤ
+offsetAt f k = f .first +ℤ pos (f .step * k)
 
--- as many seconds as from −60 to 60
-abbrev pub secondSteps : ℕ
-secondSteps = 121
-
-module _ (tolerance : Float) (instants : List ℤ) (positions : List Float) (o : Observer) (around : ℤ) where
+module _ (tolerance : Seconds) (instants : List ℤ) (positions : List Float) (o : Observer) (around : ℤ) where
   -- an offset, and the squared range at the instant moved by it
-  abbrev pub ranged : ℤ → Nearest
+  abbrev pub ranged : ℤ → LeastRange
   ranged offset = record { range = rangeIn o (propagated tolerance instants positions (movedBySeconds around offset)); offset = offset }
 
-  -- the offset k steps after the first
-  abbrev pub rangedAt : ℤ → ℕ → ℕ → Nearest
-  rangedAt first step k = ranged (first +ℤ pos (step * k))
+  -- the same of the offset k steps after the first
+  abbrev pub rangedAt : Offsets → ℕ → LeastRange
+  rangedAt f k = ranged (offsetAt f k)
+
+  -- all of a stage, in order
+  abbrev pub ranges : Offsets → List LeastRange
+  ranges f = listOf (rangedAt f) (f .count) 0
 
   -- "Least squared range over −50 to 50 minutes by minutes"; "first of equals"; the centre "at first is the given instant"
-  abbrev pub byMinutes : Nearest
-  byMinutes = firstBest nearer (centred (pos 0)) (listOf (rangedAt firstMinute minute) minuteSteps 0)
+  abbrev pub byMinutes : LeastRange
+  byMinutes = firstBest nearer (centred (pos 0)) (ranges minutes)
 
   -- "then ±60 s by seconds"
-  abbrev pub bySeconds : Nearest
-  bySeconds = let centre = byMinutes .offset in firstBest nearer (centred centre) (listOf (rangedAt (centre +ℤ negℤ (pos minute)) 1) secondSteps 0)
+  abbrev pub bySeconds : LeastRange
+  bySeconds = let centre = byMinutes .offset in firstBest nearer (centred centre) (ranges (secondsAbout centre))
 
   -- the instant of the nearest, in nanoseconds
   abbrev pub closestInstant : ℤ
@@ -84,9 +86,9 @@ module _ (tolerance : Float) (instants : List ℤ) (positions : List Float) (o :
 -- ---- the entry: checks 1, 4, 5, 6, never 8
 
 -- the refusal, or that instant
-abbrev pub closestApproach : List ℤ → List Float → Observer → ℤ → Outcome ℤ
-closestApproach instants positions o t =
-    outcome (firstFailing (closestChecks instants positions (o .x .0) (o .y .0) (o .z .0) t)) (closestInstant evenTolerance instants positions o t)
+abbrev pub findPcaTime : List ℤ → List Float → Observer → ℤ → Outcome ℤ
+findPcaTime instants positions o t =
+    outcome (firstFailing (closestChecks instants positions o t)) (closestInstant evenTolerance instants positions o t)
 
 -- the paper's number and value of each case of the answer
 abbrev pub closestIn : ClosestApproach → Outcome ℤ

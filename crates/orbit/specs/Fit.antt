@@ -1,13 +1,14 @@
 -- `fit_satellite`: the shift whose residuals have the first least RMSE. Instants are nanoseconds, shifts seconds, frequencies hertz.
-use Prim.Native.Nat.{ℕ, zero, suc, _+_, _/_}
+use Prim.Native.Nat.{ℕ, _/_}
 use mathlib.Core.Bool.{Bool, false, cond, _&&_}
-use mathlib.Core.List.{List, [], _∷_, _++_, map}
+use mathlib.Core.List.{List, [], _++_, map}
 use lib.Dec.{ltb}
-use lib.IntN.{ℤ, pos, negsuc}
+use lib.IntN.{ℤ, pos}
 use lib.ListN.{length}
-use lib.Ieee.{Float, fin, binary64, add, sub, mul, lt}
+use lib.Ieee.{Float, binary64, lt}
 use Rattle.common.specs.Rounded.{_⊕_, _⊖_, _⊗_}
-use Rattle.common.specs.Numbers.{nought, largestFinite}
+use Rattle.common.specs.Numbers.{nought, five, fifteen, tenth, twentieth, thousandth, hundredThousandth, largestFinite}
+use Rattle.common.specs.Lists.{listOf}
 use Rattle.common.specs.Search.{firstBest}
 use Rattle.float.specs.Root.{root}
 use Rattle.float.specs.Conversions.{nearestOf}
@@ -16,13 +17,14 @@ use Rattle.common.specs.Outcome.{Outcome, refused, answered, unlessRefused}
 use Rattle.checks.specs.Entries.{firstFailing, fitChecks}
 use Rattle.samples.specs.Means.{Sample, recording}
 use Rattle.samples.specs.Approach.{gapOf}
+use Rattle.orbit.specs.declared.stages.Stage.{Stage}
 use Rattle.orbit.specs.declared.fit.Report.{Report}
 use Rattle.orbit.specs.declared.fit.Fitted.{Fitted}
 use Rattle.orbit.specs.declared.fit.Fitted.the-variants.{Fit, Refused}
 use Rattle.orbit.specs.Closest.{closestInstant}
 use Rattle.orbit.specs.Residuals.{Inputs, Residual, residualOf, residuals, meanOver, deviation}
 
--- a shift with its frequency offset and RMSE, and whether enough samples are left
+-- a shift in seconds with its frequency offset and RMSE in hertz, and whether enough samples are left
 pub record Trial : Type 0 where
   pub shift : Float
   pub offset : Float
@@ -31,13 +33,12 @@ pub record Trial : Type 0 where
 
 -- "The frequency offset is the mean residual; RMSE is the root of the mean squared rest"; "more than half the samples (whole-number half) left"
 unfoldable pub trial : (Float → Sample → Residual) → List Sample → Float → Trial
-unfolding residuals meanOver deviation
 trial residual S shift =
     let ys = residuals (residual shift) S in
     let offset = meanOver ys in
     record { shift = shift; offset = offset; rmse = root binary64 (meanOver (map (deviation offset) ys)); enough = ltb (length S / 2) (length ys) }
 
--- "Usable: more than half the samples left and an RMSE below the largest finite double"
+-- "Usable: more than half the samples (whole-number half) left and an RMSE below the largest finite double"
 abbrev pub usable : Trial → Bool
 usable t = t .enough && lt (t .rmse) largestFinite
 
@@ -68,110 +69,95 @@ firstLeast try L = firstBest smaller noneYet (map (λ x. found (try x)) L)
 
 -- ---- the list of the shifts
 
--- 5.0
-abbrev pub five : Float
-five = fin false 5 (pos 0)
-
--- 15.0
-abbrev pub fifteen : Float
-fifteen = fin false 15 (pos 0)
-
--- 0.1
-abbrev pub tenth : Float
-tenth = fin false 3602879701896397 (negsuc 54)
-
--- 0.05
-abbrev pub twentieth : Float
-twentieth = fin false 3602879701896397 (negsuc 55)
-
--- 0.001
-abbrev pub thousandth : Float
-thousandth = fin false 1152921504606847 (negsuc 59)
-
--- 0.00001
-abbrev pub hundredThousandth : Float
-hundredThousandth = fin false 5902958103587057 (negsuc 68)
-
 -- step n of a stage: start + step × increment
-abbrev pub shiftAt : Float → Float → ℕ → Float
-shiftAt start increment step = start ⊕ nearestOf (pos step) ⊗ increment
+abbrev pub shiftAt : Stage → ℕ → Float
+shiftAt s step = s .start .0 ⊕ nearestOf (pos step) ⊗ s .increment .0
 
--- n shifts of a stage from step k on, "steps rising"
-unfoldable pub shiftsFrom : ℕ → ℕ → Float → Float → List Float
-unfolding add mul
-shiftsFrom zero k start increment = []
-shiftsFrom (suc n) k start increment = shiftAt start increment k ∷ shiftsFrom n (k + 1) start increment
+-- the shifts of a stage, "steps rising"
+unfoldable pub shiftsOf : Stage → List Float
+shiftsOf s = listOf (shiftAt s) (s .steps) 0
 
 -- "Coarse: centre − 15.0 + step·0.1, steps 0 to 300"
-unfoldable pub around : Float → List Float
-unfolding shiftsFrom sub
-around centre = shiftsFrom 301 0 (centre ⊖ fifteen) tenth
+abbrev pub coarseStage : Float → Stage
+coarseStage centre = record { start = record { 0 = centre ⊖ fifteen }; increment = record { 0 = tenth }; steps = 301 }
+
+-- "Fine: from the first least so far − 0.05, step·0.001, 0 to 100"
+abbrev pub fineStage : Float → Stage
+fineStage best = record { start = record { 0 = best ⊖ twentieth }; increment = record { 0 = thousandth }; steps = 101 }
+
+-- "Micro: from the first least so far − 0.001, step·0.00001, 0 to 200"
+abbrev pub microStage : Float → Stage
+microStage best = record { start = record { 0 = best ⊖ thousandth }; increment = record { 0 = hundredThousandth }; steps = 201 }
 
 -- "a second centre 0.0 if its magnitude is over 5.0"
 unfoldable pub coarse : Float → List Float
-unfolding around
-coarse centre = around centre ++ cond (lt five (magnitudeOf centre)) (around nought) []
+coarse centre = shiftsOf (coarseStage centre) ++ cond (lt five (magnitudeOf centre)) (shiftsOf (coarseStage nought)) []
 
--- "Fine: from the first least so far − 0.05, step·0.001, 0 to 100"
-unfoldable pub fine : Float → List Float
-unfolding shiftsFrom sub
-fine best = shiftsFrom 101 0 (best ⊖ twentieth) thousandth
-
--- "Micro: from the first least so far − 0.001, step·0.00001, 0 to 200"
-unfoldable pub micro : Float → List Float
-unfolding shiftsFrom sub
-micro best = shiftsFrom 201 0 (best ⊖ thousandth) hundredThousandth
-
--- a further stage from the first least of those before: "Without a usable coarse shift there are no fine or micro ones"
-abbrev pub further : (Float → List Float) → Best → List Float
-further f noneYet = []
-further f (found t) = f (t .shift)
+-- the shifts of a further stage about the first least of those before: "Without a usable coarse shift there are no fine or micro ones"
+abbrev pub further : (Float → Stage) → Best → List Float
+further stage noneYet = []
+further stage (found t) = shiftsOf (stage (t .shift))
 
 module _ (try : Float → Trial) (centre : Float) where
   -- the coarse shifts and the fine ones
   unfoldable pub coarseFine : List Float
-  coarseFine = coarse centre ++ further fine (firstLeast try (coarse centre))
+  coarseFine = coarse centre ++ further fineStage (firstLeast try (coarse centre))
 
   -- "The shifts are one list": coarse, fine, micro
   unfoldable pub shifts : List Float
-  unfolding coarseFine
-  shifts = coarseFine ++ further micro (firstLeast try coarseFine)
+  shifts = coarseFine ++ further microStage (firstLeast try coarseFine)
 
 -- ---- the outcome
 
--- three doubles and a count: made here alone
-abbrev pub reported : ℕ → Float → Float → Float → Report
-reported n shift offset rmse = record { clock = record { 0 = shift }; frequency = record { 0 = offset }; rmse = record { 0 = rmse }; count = n }
+-- what a report says whichever shift wins: how many samples were fitted
+pub record Basis : Type 0 where
+  pub count : ℕ
+
+-- that of a fit of samples
+abbrev pub basisOf : List Sample → Basis
+basisOf S = record { count = length S }
+
+-- "the three doubles and the count": a report is made here alone
+abbrev pub reportOf : Basis → Float → Float → Float → Report
+reportOf basis shift offset rmse = record {
+  «clock_offset» = record { 0 = shift };
+  «frequency_offset» = record { 0 = offset };
+  rmse = record { 0 = rmse };
+  count = basis .count;
+}
 
 -- the report of a trial
-abbrev pub report : ℕ → Trial → Report
-report n t = reported n (t .shift) (t .offset) (t .rmse)
+abbrev pub reportOfTrial : Basis → Trial → Report
+reportOfTrial basis t = reportOf basis (t .shift) (t .offset) (t .rmse)
 
--- "No coarse candidate is usable"
-abbrev pub reportOf : ℕ → Best → Outcome Report
-reportOf n noneYet = refused 10
-reportOf n (found t) = answered (report n t)
+-- the report of the best; 10 where there is none: "No coarse candidate is usable"
+abbrev pub reportOfBest : Basis → Best → Outcome Report
+reportOfBest basis noneYet = refused 10
+reportOfBest basis (found t) = answered (reportOfTrial basis t)
 
--- n is the number of samples
-unfoldable pub fitBy : (Float → Trial) → ℕ → Float → Outcome Report
-unfolding shifts firstBest
-fitBy try n centre = reportOf n (firstLeast try (shifts try centre))
+-- the fit by the trials of samples about a centre
+unfoldable pub fitByTrials : (Float → Trial) → Basis → Float → Outcome Report
+fitByTrials try basis centre = reportOfBest basis (firstLeast try (shifts try centre))
+
+-- the predicted instant: that of the closest approach about the measured one, in nanoseconds
+abbrev pub predictedBy : Inputs → ℤ → ℤ
+predictedBy i measured = closestInstant (i .settings .tolerance) (i .instants) (i .positions) (i .settings .observer) measured
 
 -- "Centre: measured minus predicted, in whole milliseconds over 1000"
 abbrev pub centreOf : Inputs → ℤ → Float
-centreOf i measured = gapOf (closestInstant (i .tolerance) (i .instants) (i .positions) (i .observer) measured) measured
+centreOf i measured = gapOf (predictedBy i measured) measured
 
 -- the fit of samples about a measured instant
-abbrev pub fitted : Inputs → List Sample → ℤ → Outcome Report
-fitted i S measured = fitBy (trial (residualOf i) S) (length S) (centreOf i measured)
+abbrev pub fitOf : Inputs → List Sample → ℤ → Outcome Report
+fitOf i S measured = fitByTrials (trial (residualOf i) S) (basisOf S) (centreOf i measured)
 
 -- ---- the entry: checks 1, 2, 4, 5, 6, 7, then 10
 
 -- the refusal, or the fit
-abbrev pub satelliteFit : Inputs → List ℤ → List Float → ℤ → Outcome Report
-satelliteFit i ts fs measured =
-    unlessRefused (firstFailing (fitChecks (i .instants) (i .positions) ts fs (i .observer .x .0) (i .observer .y .0) (i .observer .z .0) (i .f0) measured))
-    (fitted i (recording ts fs) measured)
+abbrev pub fitSatellite : Inputs → List ℤ → List Float → ℤ → Outcome Report
+fitSatellite i ts fs measured =
+    unlessRefused (firstFailing (fitChecks (i .instants) (i .positions) ts fs (i .settings .observer) (i .settings .f0) measured))
+    (fitOf i (recording ts fs) measured)
 
 -- the paper's number and values of each case of the answer
 abbrev pub fitIn : Fitted → Outcome Report

@@ -1,9 +1,11 @@
--- The definitions of orbit: window and model, propagation, closest approach, residuals, fit and its stages, pass.
+-- The definitions of orbit: window and model, propagation, closest approach, residuals, fit, pass, and what demand 3 says;
+-- for inner functions, bounds and stages.
 pub mod Window
 pub mod Propagation
 pub mod Closest
-pub mod Fitting
 pub mod Residuals
 pub mod Fit
 pub mod Passes
+pub mod Bounds
 pub mod Stages
+pub mod Demand3

@@ -4,9 +4,10 @@ use lib.IntN.{ℤ}
 use lib.Ieee.{Float}
 use Rattle.common.specs.Rounded.{_⊖_, _⊗_, _⊘_}
 use Rattle.chebyshev.specs.Recurrence.{rounded, valueOf, slopeOf}
+use Rattle.units.specs.declared.Seconds.{Seconds}
 use Rattle.units.specs.declared.Position.{Position}
 use Rattle.units.specs.declared.Velocity.{Velocity}
-use Rattle.common.specs.Outcome.{Outcome, refused, answered, outcome, unlessRefused}
+use Rattle.common.specs.Outcome.{Outcome, refused, answered, mapped, outcome, unlessRefused}
 use Rattle.checks.specs.Entries.{firstFailing, evaluationChecks, propagationChecks}
 use Rattle.orbit.specs.declared.window.ChebyshevOrbit.{ChebyshevOrbit}
 use Rattle.orbit.specs.declared.propagation.Propagation.{Propagation}
@@ -45,24 +46,19 @@ velocityAt m t =
 abbrev pub motionAt : ChebyshevOrbit → ℤ → Motion
 motionAt m t = record { position = positionAt m t; velocity = velocityAt m t }
 
--- position and velocity by a model, or its refusal
-abbrev pub evaluated : Outcome ChebyshevOrbit → ℤ → Outcome Motion
-evaluated (refused n) t = refused n
-evaluated (answered m) t = answered (motionAt m t)
-
 -- an instant propagated by a table that passed its checks: a position, or 8
-abbrev pub propagated : Float → List ℤ → List Float → ℤ → Outcome Motion
-propagated tolerance instants positions t = evaluated (modelAbout tolerance instants positions t) t
+abbrev pub propagated : Seconds → List ℤ → List Float → ℤ → Outcome Motion
+propagated tolerance instants positions t = mapped (λ m. motionAt m t) (modelAbout tolerance instants positions t)
 
 -- ---- the entries
 
 -- check 4
-abbrev pub evaluation : ChebyshevOrbit → ℤ → Outcome Motion
-evaluation m t = outcome (firstFailing (evaluationChecks t)) (motionAt m t)
+abbrev pub evaluate : ChebyshevOrbit → ℤ → Outcome Motion
+evaluate m t = outcome (firstFailing (evaluationChecks t)) (motionAt m t)
 
 -- checks 1, 4, 5, 6, then 8
-abbrev pub propagation : List ℤ → List Float → ℤ → Outcome Motion
-propagation instants positions t = unlessRefused (firstFailing (propagationChecks instants positions t)) (propagated evenTolerance instants positions t)
+abbrev pub propagateEcef : List ℤ → List Float → ℤ → Outcome Motion
+propagateEcef instants positions t = unlessRefused (firstFailing (propagationChecks instants positions t)) (propagated evenTolerance instants positions t)
 
 -- the paper's number and values of each case of the answer
 abbrev pub motionIn : Propagation → Outcome Motion

@@ -1,23 +1,25 @@
 -- `get_chebyshev_model`: the window of ten coordinates about an instant, and its Chebyshev model. Instants are nanoseconds, times seconds,
 -- positions metres, three doubles each.
-use Prim.Native.Nat.{ℕ, zero, suc, _+_, _-_, _*_}
-use mathlib.Core.Bool.{Bool, false, _||_, cond}
+use Prim.Native.Nat.{ℕ, _+_, _-_, _*_}
+use mathlib.Core.Bool.{Bool, cond}
 use mathlib.Core.List.{List, [], _∷_}
 use lib.Dec.{ltb, leb}
-use lib.IntN.{ℤ, pos, negsuc}
+use lib.IntN.{ℤ, pos}
 use lib.Signed.{leZ}
 use lib.ListN.{length, getD, replicate}
-use lib.Ieee.{Float, nan, fin, lt}
+use lib.Ieee.{Float, nan, lt}
 use Rattle.common.specs.Rounded.{_⊖_, _⊗_, _⊘_}
-use Rattle.common.specs.Numbers.{nought, one, two, nine}
+use Rattle.common.specs.Numbers.{nought, one, two, nine, billionth}
 use Rattle.float.specs.Conversions.{nearestOf}
 use Rattle.float.specs.Signs.{magnitudeOf}
 use Rattle.common.specs.Lists.{listOf}
+use Rattle.units.specs.declared.Seconds.{Seconds}
 use Rattle.chebyshev.specs.Recurrence.{rounded, polynomials, terms}
 use Rattle.chebyshev.specs.Inverse.{Row, Matrix, inverted}
 use Rattle.chebyshev.specs.Ideal.{idealMatrix}
 use Rattle.chebyshev.specs.Coefficients.{coefficientsBy}
 use Rattle.common.specs.Outcome.{Outcome, refused, answered, mapped, unlessRefused}
+use Rattle.checks.specs.Checks.{any}
 use Rattle.checks.specs.Entries.{firstFailing, propagationChecks}
 use Rattle.checks.specs.Limits.{axes}
 use Rattle.orbit.specs.declared.window.ChebyshevOrbit.{ChebyshevOrbit}
@@ -40,17 +42,13 @@ startOf idx n = cond (ltb idx 4) 0 (cond (leb n (idx + 5)) (n - terms) (idx - 4)
 abbrev pub windowStart : List ℤ → ℤ → ℕ
 windowStart instants t = startOf (lastBefore instants t) (length instants)
 
--- 1e-9
-abbrev pub nanosecond : Float
-nanosecond = fin false 4835703278458517 (negsuc 81)
-
--- the tolerance of an even window in seconds, 1.0
-abbrev pub evenTolerance : Float
-evenTolerance = one
+-- the tolerance of an even window, 1.0
+abbrev pub evenTolerance : Seconds
+evenTolerance = record { 0 = one }
 
 -- "Seconds are the rounded nanoseconds times 1e-9"
 abbrev pub secondsOf : ℤ → Float
-secondsOf n = nearestOf n ⊗ nanosecond
+secondsOf n = nearestOf n ⊗ billionth
 
 -- the ten times of the window that begins at start
 abbrev pub windowSeconds : List ℤ → ℕ → List Float
@@ -65,17 +63,12 @@ abbrev pub lastTime : List Float → Float
 lastTime t = getD t 9 nan
 
 -- "no gap differs from (t9 − t0)/9 by more than 1.0": the gap after time k is off by more than the tolerance; a NaN is not more
-abbrev pub wideGap : Float → List Float → ℕ → Bool
-wideGap tolerance t k = lt tolerance (magnitudeOf (getD t (k + 1) nan ⊖ getD t k nan ⊖ (lastTime t ⊖ firstTime t) ⊘ nine))
-
--- one of the n gaps from k on is wide
-unfoldable pub wideFrom : ℕ → ℕ → Float → List Float → Bool
-wideFrom zero k tolerance t = false
-wideFrom (suc n) k tolerance t = wideGap tolerance t k || wideFrom n (k + 1) tolerance t
+abbrev pub wideGap : Seconds → List Float → ℕ → Bool
+wideGap tolerance t k = lt (tolerance .0) (magnitudeOf (getD t (k + 1) nan ⊖ getD t k nan ⊖ (lastTime t ⊖ firstTime t) ⊘ nine))
 
 -- one of the nine gaps is wide
-abbrev pub uneven : Float → List Float → Bool
-uneven tolerance t = wideFrom 9 0 tolerance t
+abbrev pub uneven : Seconds → List Float → Bool
+uneven tolerance t = any (wideGap tolerance t) (listOf (λ k. k) 9 0)
 
 -- τ of a time between the window's ends: 2 (t − t0)/(t9 − t0) − 1
 abbrev pub tauOf : Float → Float → Float → Float
@@ -108,22 +101,22 @@ abbrev pub modelOr : Outcome Matrix → List Float → List Float → ℕ → Ou
 modelOr o t positions start = mapped (λ v. modelBy v t positions start) o
 
 -- "then ideal nodes −1 + 2k/9 are used": of an even window the ideal matrix is inverted, else that of its own nodes
-abbrev pub inversionOf : Float → List Float → Outcome Matrix
+abbrev pub inversionOf : Seconds → List Float → Outcome Matrix
 inversionOf tolerance t = inverted (cond (uneven tolerance t) (nodeMatrix t) idealMatrix)
 
 -- the model of the window that begins at start
-abbrev pub modelAt : Float → List ℤ → List Float → ℕ → Outcome ChebyshevOrbit
+abbrev pub modelAt : Seconds → List ℤ → List Float → ℕ → Outcome ChebyshevOrbit
 modelAt tolerance instants positions start = let t = windowSeconds instants start in modelOr (inversionOf tolerance t) t positions start
 
 -- the model about an instant
-abbrev pub modelAbout : Float → List ℤ → List Float → ℤ → Outcome ChebyshevOrbit
+abbrev pub modelAbout : Seconds → List ℤ → List Float → ℤ → Outcome ChebyshevOrbit
 modelAbout tolerance instants positions t = modelAt tolerance instants positions (windowStart instants t)
 
 -- ---- the entry: checks 1, 4, 5, 6, then 8
 
 -- the refusal, or the model
-abbrev pub chebyshevModel : List ℤ → List Float → ℤ → Outcome ChebyshevOrbit
-chebyshevModel instants positions t = unlessRefused (firstFailing (propagationChecks instants positions t)) (modelAbout evenTolerance instants positions t)
+abbrev pub getChebyshevModel : List ℤ → List Float → ℤ → Outcome ChebyshevOrbit
+getChebyshevModel instants positions t = unlessRefused (firstFailing (propagationChecks instants positions t)) (modelAbout evenTolerance instants positions t)
 
 -- the paper's number and values of the answer: zeros stand beside a refusal
 abbrev pub blankModel : ChebyshevOrbit

@@ -1,19 +1,22 @@
 // The closest approach of a satellite to the observer.
 ghost use mathlib.Core.Path.{_≡_};
 ghost use Prim.Native.Nat.{_+_, _*_, _≤_};
-ghost use lib.IntN.{pos, natAbs, _+ℤ_};
-ghost use Rattle.common.specs.Lists.{listOf};
+ghost use lib.IntN.{natAbs};
 ghost use Rattle.common.specs.Search.{betterOf, firstBest};
 ghost use Rattle.checks.specs.Limits.{farthestInstant};
-ghost use Rattle.checks.specs.Passed.{Table};
-ghost use Rattle.orbit.specs.Fitting.{farthestOffset};
-ghost use Rattle.orbit.specs.Closest.{squaredRange, movedBySeconds, nearer, ranged, rangedAt, closestInstant, closestApproach, closestIn};
+ghost use Rattle.checks.specs.Checked.{Table};
+ghost use Rattle.orbit.specs.Bounds.{reach, farthestOffset};
+ghost use Rattle.orbit.specs.Closest.{squaredRange, movedBySeconds, nearer, offsetAt, ranged, ranges, closestInstant, findPcaTime, closestIn};
 use crate::propagation::Propagation;
 use crate::propagation::propagate_at;
+use crate::settings::EVEN_TOLERANCE;
 use checks::refuse_closest;
+use float::LARGEST_FINITE;
 use units::Nanoseconds;
 use units::Observer;
 use units::Position;
+use units::SECOND;
+use units::Seconds;
 
 // The instant of the closest approach, or the refusal (1, 4, 5, 6).
 pub enum ClosestApproach {
@@ -21,13 +24,32 @@ pub enum ClosestApproach {
     Refused(u8),
 }
 
+// The offsets of a stage, in whole seconds: `count` of them from `first` on, each `step` after the last.
+struct Offsets {
+    first: i64,
+    step: u64,
+    count: u64,
+}
+
+// From −50 to 50 minutes by minutes.
+const MINUTES: Offsets = Offsets {
+    first: -3000,
+    step: 60,
+    count: 101,
+};
+
+// From −60 to 60 s by seconds: how far before its centre that stage starts, and its offsets.
+const SECONDS_BEFORE: i64 = 60;
+
+const SECONDS_COUNT: u64 = 121;
+
 // The least squared range so far, in square metres, and its offset in seconds.
-struct Nearest {
+struct LeastRange {
     range: f64,
     offset: i64,
 }
 
-// The squared distance of a position from the observer.
+// The squared distance of a position from the observer, in square metres.
 fn squared_range(p: Position, o: Observer) -> f64
     ensures { λ r. ⌜ r ≡ squaredRange o p ⌝ }
 {
@@ -38,19 +60,19 @@ fn squared_range(p: Position, o: Observer) -> f64
 }
 
 // An instant moved by whole seconds.
-fn moved_by_seconds(t: i64, offset: i64) -> i64
-    requires { ⌜ (natAbs t ≤ farthestInstant) × (natAbs offset ≤ farthestOffset) ⌝ }
-    ensures { λ r. ⌜ r ≡ movedBySeconds t offset ⌝ }
+fn moved_by_seconds(t: Nanoseconds, offset: i64) -> Nanoseconds
+    requires { ⌜ (natAbs (t .0) ≤ farthestInstant) × (natAbs offset ≤ farthestOffset) ⌝ }
+    ensures { λ r. ⌜ r .0 ≡ movedBySeconds (t .0) offset ⌝ }
 {
-    t + offset * 1000000000
+    Nanoseconds(t.0 + offset * SECOND)
 }
 
-// The offset k steps after the first, in seconds.
-fn offset_of(first: i64, step: u64, k: u64) -> i64
-    requires { ⌜ natAbs first + step * k ≤ farthestOffset ⌝ }
-    ensures { λ r. ⌜ r ≡ first +ℤ pos (step * k) ⌝ }
+// The offset k steps after the first.
+fn offset_of(offsets: Offsets, k: u64) -> i64
+    requires { ⌜ natAbs (offsets .first) + offsets .step * k ≤ farthestOffset ⌝ }
+    ensures { λ r. ⌜ r ≡ offsetAt offsets k ⌝ }
 {
-    first + ((step * k) as i64)
+    offsets.first + ((offsets.step * k) as i64)
 }
 
 // The nearer of the best so far and the place at an offset: the offset wins only by a smaller squared range.
@@ -58,13 +80,13 @@ fn nearer_at(
     instants: &[i64],
     positions: &[f64],
     observer: Observer,
-    around: i64,
+    around: Nanoseconds,
+    tolerance: Seconds,
     offset: i64,
-    tolerance: f64,
-    best: Nearest,
-) -> Nearest
-    requires { ⌜ Table (now instants) (now positions) × (natAbs around ≤ farthestInstant) × (natAbs offset ≤ farthestOffset) ⌝ }
-    ensures { λ r. ⌜ r ≡ betterOf nearer best (ranged tolerance (now (instants .entry)) (now (positions .entry)) observer around offset) ⌝ }
+    best: LeastRange,
+) -> LeastRange
+    requires { ⌜ Table (now instants) (now positions) × (natAbs (around .0) ≤ farthestInstant) × (natAbs offset ≤ farthestOffset) ⌝ }
+    ensures { λ r. ⌜ r ≡ betterOf nearer best (ranged tolerance (now (instants .entry)) (now (positions .entry)) observer (around .0) offset) ⌝ }
 {
     let t = moved_by_seconds(around, offset);
     let Propagation::At(p, _) = propagate_at(instants, positions, t, tolerance) else {
@@ -72,36 +94,34 @@ fn nearer_at(
     };
     let range = squared_range(p, observer);
     if range < best.range {
-        return Nearest { range, offset };
+        return LeastRange { range, offset };
     }
     best
 }
 
-// The first nearest of the start and `count` offsets, each `step` seconds after the last.
-fn seek_nearest(
+// The first nearest of the start and the offsets of a stage.
+fn seek_least_range(
     instants: &[i64],
     positions: &[f64],
     observer: Observer,
-    around: i64,
-    first: i64,
-    step: u64,
-    count: u64,
-    tolerance: f64,
-    start: Nearest,
-) -> Nearest
-    requires { ⌜ Table (now instants) (now positions) × (natAbs around ≤ farthestInstant) × (natAbs first + step * count ≤ farthestOffset) ⌝ }
-    ensures { λ r. ⌜ r ≡ firstBest nearer start (listOf (rangedAt tolerance (now (instants .entry)) (now (positions .entry)) observer around first step) count 0) ⌝ }
+    around: Nanoseconds,
+    tolerance: Seconds,
+    offsets: Offsets,
+    start: LeastRange,
+) -> LeastRange
+    requires { ⌜ Table (now instants) (now positions) × (natAbs (around .0) ≤ farthestInstant) × (reach offsets ≤ farthestOffset) ⌝ }
+    ensures { λ r. ⌜ r ≡ firstBest nearer start (ranges tolerance (now (instants .entry)) (now (positions .entry)) observer (around .0) offsets) ⌝ }
 {
     let mut best = start;
-    for k in 0..count {
-        let offset = offset_of(first, step, k);
+    for k in 0..offsets.count {
+        let offset = offset_of(offsets, k);
         let next = nearer_at(
             instants,
             positions,
             observer,
             around,
-            offset,
             tolerance,
+            offset,
             best,
         );
         best = next;
@@ -114,41 +134,42 @@ pub(crate) fn closest_at(
     instants: &[i64],
     positions: &[f64],
     observer: Observer,
-    around: i64,
-    tolerance: f64,
-) -> i64
-    requires { ⌜ Table (now instants) (now positions) × (natAbs around ≤ farthestInstant) ⌝ }
-    ensures { λ r. ⌜ r ≡ closestInstant tolerance (now (instants .entry)) (now (positions .entry)) observer around ⌝ }
+    around: Nanoseconds,
+    tolerance: Seconds,
+) -> Nanoseconds
+    requires { ⌜ Table (now instants) (now positions) × (natAbs (around .0) ≤ farthestInstant) ⌝ }
+    ensures { λ r. ⌜ r .0 ≡ closestInstant tolerance (now (instants .entry)) (now (positions .entry)) observer (around .0) ⌝ }
 {
-    let unranged = Nearest {
-        range: 1.7976931348623157e308,
+    let unranged = LeastRange {
+        range: LARGEST_FINITE,
         offset: 0,
     };
-    let by_minutes = seek_nearest(
+    let by_minutes = seek_least_range(
         instants,
         positions,
         observer,
         around,
-        -3000,
-        60,
-        101,
         tolerance,
+        MINUTES,
         unranged,
     );
     let centre = by_minutes.offset;
-    let centred = Nearest {
-        range: 1.7976931348623157e308,
+    let seconds = Offsets {
+        first: centre - SECONDS_BEFORE,
+        step: 1,
+        count: SECONDS_COUNT,
+    };
+    let centred = LeastRange {
+        range: LARGEST_FINITE,
         offset: centre,
     };
-    let by_seconds = seek_nearest(
+    let by_seconds = seek_least_range(
         instants,
         positions,
         observer,
         around,
-        centre - 60,
-        1,
-        121,
         tolerance,
+        seconds,
         centred,
     );
     moved_by_seconds(around, by_seconds.offset)
@@ -161,12 +182,11 @@ pub fn find_pca_time(
     observer: Observer,
     instant: Nanoseconds,
 ) -> ClosestApproach
-    ensures { λ r. ⌜ closestIn r ≡ closestApproach (now (instants .entry)) (now (positions .entry)) observer (instant .0) ⌝ }
+    ensures { λ r. ⌜ closestIn r ≡ findPcaTime (now (instants .entry)) (now (positions .entry)) observer (instant .0) ⌝ }
 {
     let refusal = refuse_closest(instants, positions, observer, instant);
     if refusal != 0 {
         return ClosestApproach::Refused(refusal);
     }
-    let t = instant.0;
-    ClosestApproach::At(Nanoseconds(closest_at(instants, positions, observer, t, 1.0)))
+    ClosestApproach::At(closest_at(instants, positions, observer, instant, EVEN_TOLERANCE))
 }

@@ -1,33 +1,35 @@
 // The fit of a recording to a satellite: the shift of its clock with the first least RMSE.
 ghost use mathlib.Core.Path.{_≡_};
-ghost use Prim.Native.Nat.{_<_, _≤_};
+ghost use Prim.Native.Nat.{_≤_};
 ghost use lib.IntN.{natAbs};
-ghost use lib.ListN.{length};
-ghost use Rattle.float.specs.Signs.{Within};
 ghost use Rattle.checks.specs.Limits.{farthestInstant};
 ghost use Rattle.samples.specs.Means.{recording};
-ghost use Rattle.samples.specs.Approach.{gapOf, farthestMoved};
-ghost use Rattle.orbit.specs.Fitting.{Fitting, farthestBest};
+ghost use Rattle.samples.specs.Approach.{gapOf};
+ghost use Rattle.samples.specs.Runs.{farthestMoved};
+ghost use Rattle.orbit.specs.Bounds.{FitAreas};
 ghost use Rattle.orbit.specs.Window.{evenTolerance};
-ghost use Rattle.orbit.specs.Fit.{trial, fitted, satelliteFit, fitIn};
-ghost use Rattle.orbit.specs.Residuals.{inputsOf, residualOf};
-ghost use Rattle.orbit.specs.Stages.{finished};
+ghost use Rattle.orbit.specs.Residuals.{settingsOf, inputsOf};
+ghost use Rattle.orbit.specs.Fit.{fitOf, fitSatellite, fitIn};
 use crate::closest::closest_at;
-use crate::stages::LeastSoFar;
+use crate::settings::EVEN_TOLERANCE;
+use crate::settings::Settings;
 use crate::stages::coarse_stage;
-use crate::stages::run_stage;
+use crate::stages::refine;
 use checks::MOST_SAMPLES;
 use checks::refuse_fit;
+use float::LARGEST_FINITE;
 use float::nearest;
 use units::Hertz;
+use units::MILLISECOND;
 use units::Nanoseconds;
 use units::Observer;
+use units::SECOND_MILLISECONDS;
 use units::Seconds;
 
 // Clock offset, frequency offset, RMSE of the residuals, and how many samples or means were fitted.
 pub struct Report {
-    pub clock: Seconds,
-    pub frequency: Hertz,
+    pub clock_offset: Seconds,
+    pub frequency_offset: Hertz,
     pub rmse: Hertz,
     pub count: usize,
 }
@@ -38,107 +40,67 @@ pub enum Fitted {
     Refused(u8),
 }
 
-// The fine and micro stages from the least so far, and the report; 10 where no coarse shift was usable.
-fn finish_fit(
-    instants: &[i64],
-    positions: &[f64],
-    samples: &[i64],
-    frequencies: &[f64],
-    observer: Observer,
-    f0: f64,
-    tolerance: f64,
-    values: &mut [f64],
-    best: LeastSoFar,
-) -> Fitted
-    requires { ⌜ Fitting (now instants) (now positions) (now samples) (now frequencies) (now values) × Within farthestBest (best .shift) ⌝ }
-    ensures { λ r. ⌜ fitIn r ≡ finished (trial (residualOf (inputsOf tolerance (now (instants .entry)) (now (positions .entry)) observer f0)) (recording (now (samples .entry)) (now (frequencies .entry)))) (length (now (samples .entry))) best ⌝ }
+// The centre of the search: measured minus predicted, in whole milliseconds over 1000.
+fn centre_between(predicted: Nanoseconds, measured: Nanoseconds) -> Seconds
+    requires { ⌜ (natAbs (predicted .0) ≤ farthestMoved) × (natAbs (measured .0) ≤ farthestInstant) ⌝ }
+    ensures { λ r. ⌜ r .0 ≡ gapOf (predicted .0) (measured .0) ⌝ }
 {
-    if !(best.rmse < 1.7976931348623157e308) {
-        return Fitted::Refused(10);
-    }
-    let fine = run_stage(
-        instants,
-        positions,
-        samples,
-        frequencies,
-        observer,
-        f0,
-        tolerance,
-        best.shift - 0.05,
-        0.001,
-        101,
-        values,
-        best,
-    );
-    let micro = run_stage(
-        instants,
-        positions,
-        samples,
-        frequencies,
-        observer,
-        f0,
-        tolerance,
-        fine.shift - 0.001,
-        0.00001,
-        201,
-        values,
-        fine,
-    );
-    Fitted::Fit(Report {
-        clock: Seconds(micro.shift),
-        frequency: Hertz(micro.offset),
-        rmse: Hertz(micro.rmse),
-        count: samples.len(),
-    })
+    Seconds(nearest((measured.0 - predicted.0) / MILLISECOND) / SECOND_MILLISECONDS)
 }
 
-// The centre of the search, in seconds: measured minus predicted, in whole milliseconds over 1000.
-fn centre_between(predicted: i64, measured: i64) -> f64
-    requires { ⌜ (natAbs predicted ≤ farthestMoved) × (natAbs measured ≤ farthestInstant) ⌝ }
-    ensures { λ r. ⌜ r ≡ gapOf predicted measured ⌝ }
-{
-    nearest((measured - predicted) / 1000000) / 1000.0
-}
-
-// The fit of samples that passed their checks about a measured instant.
+// The fit of samples that passed their checks about a measured instant; 10 where no coarse shift is usable.
 pub(crate) fn fit_about(
     instants: &[i64],
     positions: &[f64],
     samples: &[i64],
     frequencies: &[f64],
-    observer: Observer,
-    f0: f64,
-    measured: i64,
-    tolerance: f64,
+    settings: Settings,
+    measured: Nanoseconds,
     values: &mut [f64],
 ) -> Fitted
-    requires { ⌜ Fitting (now instants) (now positions) (now samples) (now frequencies) (now values) × (natAbs measured ≤ farthestInstant) ⌝ }
-    ensures { λ r. ⌜ fitIn r ≡ fitted (inputsOf tolerance (now (instants .entry)) (now (positions .entry)) observer f0) (recording (now (samples .entry)) (now (frequencies .entry))) measured ⌝ }
+    requires { ⌜ FitAreas (now instants) (now positions) (now samples) (now frequencies) (now values) × (natAbs (measured .0) ≤ farthestInstant) ⌝ }
+    ensures { λ r. ⌜ fitIn r ≡ fitOf (inputsOf (now (instants .entry)) (now (positions .entry)) settings)
+        (recording (now (samples .entry)) (now (frequencies .entry))) (measured .0)
+        ⌝ }
 {
-    let predicted = closest_at(instants, positions, observer, measured, tolerance);
+    let predicted = closest_at(
+        instants,
+        positions,
+        settings.observer,
+        measured,
+        settings.tolerance,
+    );
     let centre = centre_between(predicted, measured);
-    let best = coarse_stage(
+    let coarse = coarse_stage(
         instants,
         positions,
         samples,
         frequencies,
-        observer,
-        f0,
-        tolerance,
+        settings,
         centre,
         values,
     );
-    finish_fit(
+    if !(coarse.rmse.0 < LARGEST_FINITE) {
+        return Fitted::Refused(10);
+    }
+    let best = refine(
         instants,
         positions,
         samples,
         frequencies,
-        observer,
-        f0,
-        tolerance,
+        settings,
         values,
-        best,
-    )
+        coarse,
+    );
+    let clock_offset = best.shift;
+    let frequency_offset = best.offset;
+    let rmse = best.rmse;
+    Fitted::Fit(Report {
+        clock_offset,
+        frequency_offset,
+        rmse,
+        count: samples.len(),
+    })
 }
 
 // Clock offset, frequency offset and RMSE of samples, by the table and the instant of the measured approach.
@@ -151,7 +113,10 @@ pub fn fit_satellite(
     f0: Hertz,
     measured: Nanoseconds,
 ) -> Fitted
-    ensures { λ r. ⌜ fitIn r ≡ satelliteFit (inputsOf evenTolerance (now (instants .entry)) (now (positions .entry)) observer (f0 .0)) (now (samples .entry)) (now (frequencies .entry)) (measured .0) ⌝ }
+    ensures { λ r. ⌜ fitIn r ≡ fitSatellite
+        (inputsOf (now (instants .entry)) (now (positions .entry)) (settingsOf observer f0 evenTolerance))
+        (now (samples .entry)) (now (frequencies .entry)) (measured .0)
+        ⌝ }
 {
     let refusal = refuse_fit(
         instants,
@@ -165,16 +130,19 @@ pub fn fit_satellite(
     if refusal != 0 {
         return Fitted::Refused(refusal);
     }
+    let settings = Settings {
+        observer,
+        f0,
+        tolerance: EVEN_TOLERANCE,
+    };
     let mut values = [0.0; MOST_SAMPLES];
     fit_about(
         instants,
         positions,
         samples,
         frequencies,
-        observer,
-        f0.0,
-        measured.0,
-        1.0,
+        settings,
+        measured,
         &mut values,
     )
 }

@@ -4,6 +4,7 @@ mod fit;
 mod passes;
 mod propagation;
 mod residuals;
+mod settings;
 mod stages;
 mod window;
 
@@ -16,6 +17,7 @@ pub use passes::pass;
 pub use propagation::Propagation;
 pub use propagation::evaluate;
 pub use propagation::propagate_ecef;
+pub use settings::EVEN_TOLERANCE;
 pub use window::ChebyshevOrbit;
 pub use window::Model;
 pub use window::get_chebyshev_model;

@@ -3,14 +3,16 @@ ghost use mathlib.Core.Path.{_≡_};
 ghost use Prim.Native.Nat.{_≤_};
 ghost use lib.IntN.{natAbs};
 ghost use Rattle.checks.specs.Limits.{farthestInstant};
+ghost use Rattle.checks.specs.Checked.{Table, Samples};
 ghost use Rattle.samples.specs.Means.{recording};
-ghost use Rattle.checks.specs.Passed.{Table, Samples};
 ghost use Rattle.orbit.specs.Window.{evenTolerance};
-ghost use Rattle.orbit.specs.Fit.{fitted, fitIn};
-ghost use Rattle.orbit.specs.Residuals.{inputsOf};
-ghost use Rattle.orbit.specs.Passes.{measuredBy, passReport, passInstants, passFrequencies};
+ghost use Rattle.orbit.specs.Residuals.{settingsOf, inputsOf};
+ghost use Rattle.orbit.specs.Fit.{fitOf, fitIn};
+ghost use Rattle.orbit.specs.Passes.{measuredBy, pass, passInstants, passFrequencies};
 use crate::fit::Fitted;
 use crate::fit::fit_about;
+use crate::settings::EVEN_TOLERANCE;
+use crate::settings::Settings;
 use checks::MOST_SAMPLES;
 use checks::refuse_pass;
 use samples::Approach;
@@ -18,20 +20,31 @@ use samples::Downsampled;
 use samples::downsample_data;
 use samples::estimate_measured_pca_time;
 use units::Hertz;
+use units::Nanoseconds;
 use units::Observer;
 
-// The measured approach of samples in nanoseconds, or else the instant of the one at index count/2.
-fn approach_or_middle(samples: &[i64], frequencies: &[f64]) -> i64
+// The instant that a pass is fitted about, and whether it is the fallback, the middle sample's, since no slope of the samples is
+// below zero. Request 2.4 will report it; until then only the instant is used.
+struct Measured {
+    instant: Nanoseconds,
+    fallback: bool,
+}
+
+// The measured approach of samples, or else the instant of the one at index count/2.
+fn approach_or_middle(samples: &[i64], frequencies: &[f64]) -> Measured
     requires { ⌜ Samples (now samples) (now frequencies) ⌝ }
-    ensures { λ r. ⌜ (r ≡ measuredBy (now (samples .entry)) (now (frequencies .entry))) × (natAbs r ≤ farthestInstant) ⌝ }
+    ensures { λ r. ⌜ (r ≡ measuredBy (now (samples .entry)) (now (frequencies .entry))) × (natAbs (r .instant .0) ≤ farthestInstant) ⌝ }
 {
-    let measured = estimate_measured_pca_time(samples, frequencies);
-    match measured {
-        Approach::At(t) => {
-            let nanoseconds = t.0;
-            nanoseconds
-        }
-        Approach::Refused(_) => samples[samples.len() / 2],
+    let approach = estimate_measured_pca_time(samples, frequencies);
+    match approach {
+        Approach::At(instant) => Measured {
+            instant,
+            fallback: false,
+        },
+        Approach::Refused(_) => Measured {
+            instant: Nanoseconds(samples[samples.len() / 2]),
+            fallback: true,
+        },
     }
 }
 
@@ -41,12 +54,12 @@ fn fit_means(
     positions: &[f64],
     means: &[i64],
     frequencies: &[f64],
-    observer: Observer,
-    f0: f64,
-    tolerance: f64,
+    settings: Settings,
 ) -> Fitted
     requires { ⌜ Table (now instants) (now positions) × Samples (now means) (now frequencies) ⌝ }
-    ensures { λ r. ⌜ fitIn r ≡ fitted (inputsOf tolerance (now (instants .entry)) (now (positions .entry)) observer f0) (recording (now (means .entry)) (now (frequencies .entry))) (measuredBy (now (means .entry)) (now (frequencies .entry))) ⌝ }
+    ensures { λ r. ⌜ fitIn r ≡ fitOf (inputsOf (now (instants .entry)) (now (positions .entry)) settings)
+        (recording (now (means .entry)) (now (frequencies .entry))) (measuredBy (now (means .entry)) (now (frequencies .entry)) .instant .0)
+        ⌝ }
 {
     let measured = approach_or_middle(means, frequencies);
     let mut values = [0.0; MOST_SAMPLES];
@@ -55,10 +68,8 @@ fn fit_means(
         positions,
         means,
         frequencies,
-        observer,
-        f0,
-        measured,
-        tolerance,
+        settings,
+        measured.instant,
         &mut values,
     )
 }
@@ -74,9 +85,18 @@ pub fn pass(
     mean_instants: &mut [i64],
     mean_frequencies: &mut [f64],
 ) -> Fitted
-    ensures { λ r. ⌜ fitIn r ≡ passReport (inputsOf evenTolerance (now (instants .entry)) (now (positions .entry)) observer (f0 .0)) (now (samples .entry)) (now (frequencies .entry)) (now («mean_instants» .entry)) (now («mean_frequencies» .entry)) ⌝ }
-    ensures { λ r. ⌜ now («mean_instants» .exit) ≡ passInstants (inputsOf evenTolerance (now (instants .entry)) (now (positions .entry)) observer (f0 .0)) (now (samples .entry)) (now (frequencies .entry)) (now («mean_instants» .entry)) (now («mean_frequencies» .entry)) ⌝ }
-    ensures { λ r. ⌜ now («mean_frequencies» .exit) ≡ passFrequencies (inputsOf evenTolerance (now (instants .entry)) (now (positions .entry)) observer (f0 .0)) (now (samples .entry)) (now (frequencies .entry)) (now («mean_instants» .entry)) (now («mean_frequencies» .entry)) ⌝ }
+    ensures { λ r. ⌜ fitIn r ≡ pass
+        (inputsOf (now (instants .entry)) (now (positions .entry)) (settingsOf observer f0 evenTolerance))
+        (now (samples .entry)) (now (frequencies .entry)) (now («mean_instants» .entry)) (now («mean_frequencies» .entry))
+        ⌝ }
+    ensures { λ r. ⌜ now («mean_instants» .exit) ≡ passInstants
+        (inputsOf (now (instants .entry)) (now (positions .entry)) (settingsOf observer f0 evenTolerance))
+        (now (samples .entry)) (now (frequencies .entry)) (now («mean_instants» .entry)) (now («mean_frequencies» .entry))
+        ⌝ }
+    ensures { λ r. ⌜ now («mean_frequencies» .exit) ≡ passFrequencies
+        (inputsOf (now (instants .entry)) (now (positions .entry)) (settingsOf observer f0 evenTolerance))
+        (now (samples .entry)) (now (frequencies .entry)) (now («mean_instants» .entry)) (now («mean_frequencies» .entry))
+        ⌝ }
 {
     let refusal = refuse_pass(
         instants,
@@ -91,6 +111,11 @@ pub fn pass(
     if refusal != 0 {
         return Fitted::Refused(refusal);
     }
+    let settings = Settings {
+        observer,
+        f0,
+        tolerance: EVEN_TOLERANCE,
+    };
     let means = downsample_data(samples, frequencies, mean_instants, mean_frequencies);
     match means {
         Downsampled::Count(n) => fit_means(
@@ -98,9 +123,7 @@ pub fn pass(
             positions,
             &mean_instants[..n],
             &mean_frequencies[..n],
-            observer,
-            f0.0,
-            1.0,
+            settings,
         ),
         Downsampled::Refused(again) => Fitted::Refused(again),
     }

@@ -1,26 +1,57 @@
 // The stages of the search for the shift with the first least RMSE: each tries shifts one step apart.
 ghost use mathlib.Core.Path.{_≡_};
-ghost use mathlib.Core.List.{map};
 ghost use Prim.Native.Nat.{_<_, _≤_};
-ghost use Rattle.float.specs.Signs.{Within};
-ghost use Rattle.samples.specs.Means.{recording};
-ghost use Rattle.orbit.specs.Fitting.{Fitting, farthestCentre, farthestStart, farthestShift};
-ghost use Rattle.orbit.specs.Fit.{trial, shiftAt, shiftsFrom, coarse, noneYet};
-ghost use Rattle.orbit.specs.Residuals.{inputsOf, residualOf};
-ghost use Rattle.orbit.specs.Stages.{update, updates, state};
+ghost use Rattle.float.specs.Bounds.{Within};
+ghost use Rattle.orbit.specs.Bounds.{FitAreas, SmallStage, farthestCentre, farthestCoarse, farthestShift, mostSteps};
+ghost use Rattle.orbit.specs.Fit.{shiftAt, coarseStage, fineStage, microStage};
+ghost use Rattle.orbit.specs.Stages.{trialBy, update, afterStage, afterCoarse, refined};
 use crate::residuals::collect_residuals;
 use crate::residuals::squares_of;
 use crate::residuals::sum_of;
+use crate::settings::Settings;
+use float::LARGEST_FINITE;
 use float::magnitude;
 use float::nearest;
 use float::sqrt;
-use units::Observer;
+use units::Hertz;
+use units::Seconds;
 
-// The least RMSE so far in hertz, its shift in seconds and its frequency offset in hertz.
+// The coarse stage: how far before its centre it starts, in seconds, its increment and its steps.
+const COARSE_BEFORE: f64 = 15.0;
+
+const COARSE_INCREMENT: Seconds = Seconds(0.1);
+
+const COARSE_STEPS: u64 = 301;
+
+// The same of the fine stage, about the best coarse shift.
+const FINE_BEFORE: f64 = 0.05;
+
+const FINE_INCREMENT: Seconds = Seconds(0.001);
+
+const FINE_STEPS: u64 = 101;
+
+// The same of the micro stage, about the best shift of the two before.
+const MICRO_BEFORE: f64 = 0.001;
+
+const MICRO_INCREMENT: Seconds = Seconds(0.00001);
+
+const MICRO_STEPS: u64 = 201;
+
+// A centre farther than this off 0, in seconds, has the coarse shifts about 0 tried too.
+const FAR_CENTRE: f64 = 5.0;
+
+// A stage: `steps` shifts from `start` on, each `increment` after the last.
+pub(crate) struct Stage {
+    pub(crate) start: Seconds,
+    pub(crate) increment: Seconds,
+    pub(crate) steps: u64,
+}
+
+// The least RMSE so far, its shift and its frequency offset.
 pub(crate) struct LeastSoFar {
-    pub(crate) rmse: f64,
-    pub(crate) shift: f64,
-    pub(crate) offset: f64,
+    pub(crate) rmse: Hertz,
+    pub(crate) shift: Seconds,
+    pub(crate) offset: Hertz,
 }
 
 // The better of the least so far and the trial of a shift: the shift wins only with enough residuals and a smaller RMSE.
@@ -29,24 +60,22 @@ fn try_shift(
     positions: &[f64],
     samples: &[i64],
     frequencies: &[f64],
-    observer: Observer,
-    f0: f64,
-    tolerance: f64,
-    shift: f64,
+    settings: Settings,
+    shift: Seconds,
     values: &mut [f64],
     best: LeastSoFar,
 ) -> LeastSoFar
-    requires { ⌜ Fitting (now instants) (now positions) (now samples) (now frequencies) (now values) × Within farthestShift shift ⌝ }
-    ensures { λ r. ⌜ r ≡ update best (trial (residualOf (inputsOf tolerance (now (instants .entry)) (now (positions .entry)) observer f0)) (recording (now (samples .entry)) (now (frequencies .entry))) shift) ⌝ }
+    requires { ⌜ FitAreas (now instants) (now positions) (now samples) (now frequencies) (now values) × Within farthestShift (shift .0) ⌝ }
+    ensures { λ r. ⌜ r ≡ update best
+        (trialBy (now (instants .entry)) (now (positions .entry)) (now (samples .entry)) (now (frequencies .entry)) settings (shift .0))
+        ⌝ }
 {
     let count = collect_residuals(
         instants,
         positions,
         samples,
         frequencies,
-        observer,
-        f0,
-        tolerance,
+        settings,
         shift,
         values,
     );
@@ -56,53 +85,49 @@ fn try_shift(
     let n = nearest(count as i64);
     let offset = sum_of(values, count) / n;
     let rmse = sqrt(squares_of(values, count, offset) / n);
-    if rmse < best.rmse {
+    if rmse < best.rmse.0 {
         return LeastSoFar {
-            rmse,
+            rmse: Hertz(rmse),
             shift,
-            offset,
+            offset: Hertz(offset),
         };
     }
     best
 }
 
-// The shift at a step of a stage, in seconds.
-fn shift_at(start: f64, increment: f64, step: u64) -> f64
-    requires { ⌜ step < 1000 ⌝ }
-    ensures { λ r. ⌜ r ≡ shiftAt start increment step ⌝ }
+// The shift at a step of a stage.
+fn shift_at(stage: Stage, step: u64) -> Seconds
+    requires { ⌜ step ≤ mostSteps ⌝ }
+    ensures { λ r. ⌜ r .0 ≡ shiftAt stage step ⌝ }
 {
-    start + nearest(step as i64) * increment
+    Seconds(stage.start.0 + nearest(step as i64) * stage.increment.0)
 }
 
-// One stage: the least so far after `steps` shifts from `start`, each `increment` seconds after the last.
-pub(crate) fn run_stage(
+// The least so far after the shifts of one stage.
+fn run_stage(
     instants: &[i64],
     positions: &[f64],
     samples: &[i64],
     frequencies: &[f64],
-    observer: Observer,
-    f0: f64,
-    tolerance: f64,
-    start: f64,
-    increment: f64,
-    steps: u64,
+    settings: Settings,
+    stage: Stage,
     values: &mut [f64],
     best: LeastSoFar,
 ) -> LeastSoFar
-    requires { ⌜ Fitting (now instants) (now positions) (now samples) (now frequencies) (now values) × Within farthestStart start × Within 1 increment × (steps ≤ 301) ⌝ }
-    ensures { λ r. ⌜ r ≡ updates best (map (trial (residualOf (inputsOf tolerance (now (instants .entry)) (now (positions .entry)) observer f0)) (recording (now (samples .entry)) (now (frequencies .entry)))) (shiftsFrom steps 0 start increment)) ⌝ }
+    requires { ⌜ FitAreas (now instants) (now positions) (now samples) (now frequencies) (now values) × SmallStage stage ⌝ }
+    ensures { λ r. ⌜ r ≡ afterStage
+        (trialBy (now (instants .entry)) (now (positions .entry)) (now (samples .entry)) (now (frequencies .entry)) settings) stage best
+        ⌝ }
 {
     let mut least = best;
-    for step in 0..steps {
-        let shift = shift_at(start, increment, step);
+    for step in 0..stage.steps {
+        let shift = shift_at(stage, step);
         let next = try_shift(
             instants,
             positions,
             samples,
             frequencies,
-            observer,
-            f0,
-            tolerance,
+            settings,
             shift,
             values,
             least,
@@ -112,41 +137,70 @@ pub(crate) fn run_stage(
     least
 }
 
-// The coarse stage: the least so far after the shifts about a centre in seconds, and about 0 too if its magnitude is over 5.
+// The coarse stage about a centre.
+fn coarse_about(centre: Seconds) -> Stage
+    ensures { λ r. ⌜ r ≡ coarseStage (centre .0) ⌝ }
+{
+    Stage {
+        start: Seconds(centre.0 - COARSE_BEFORE),
+        increment: COARSE_INCREMENT,
+        steps: COARSE_STEPS,
+    }
+}
+
+// The fine stage about the best coarse shift.
+fn fine_about(best: Seconds) -> Stage
+    ensures { λ r. ⌜ r ≡ fineStage (best .0) ⌝ }
+{
+    Stage {
+        start: Seconds(best.0 - FINE_BEFORE),
+        increment: FINE_INCREMENT,
+        steps: FINE_STEPS,
+    }
+}
+
+// The micro stage about the best shift of the two before.
+fn micro_about(best: Seconds) -> Stage
+    ensures { λ r. ⌜ r ≡ microStage (best .0) ⌝ }
+{
+    Stage {
+        start: Seconds(best.0 - MICRO_BEFORE),
+        increment: MICRO_INCREMENT,
+        steps: MICRO_STEPS,
+    }
+}
+
+// The least so far after the coarse shifts: those about a centre, and those about 0 too if the centre is far.
 pub(crate) fn coarse_stage(
     instants: &[i64],
     positions: &[f64],
     samples: &[i64],
     frequencies: &[f64],
-    observer: Observer,
-    f0: f64,
-    tolerance: f64,
-    centre: f64,
+    settings: Settings,
+    centre: Seconds,
     values: &mut [f64],
 ) -> LeastSoFar
-    requires { ⌜ Fitting (now instants) (now positions) (now samples) (now frequencies) (now values) × Within farthestCentre centre ⌝ }
-    ensures { λ r. ⌜ r ≡ updates (state noneYet) (map (trial (residualOf (inputsOf tolerance (now (instants .entry)) (now (positions .entry)) observer f0)) (recording (now (samples .entry)) (now (frequencies .entry)))) (coarse centre)) ⌝ }
+    requires { ⌜ FitAreas (now instants) (now positions) (now samples) (now frequencies) (now values) × Within farthestCentre (centre .0) ⌝ }
+    ensures { λ r. ⌜ r ≡ afterCoarse
+        (trialBy (now (instants .entry)) (now (positions .entry)) (now (samples .entry)) (now (frequencies .entry)) settings) (centre .0)
+        ⌝ }
 {
     let none = LeastSoFar {
-        rmse: 1.7976931348623157e308,
-        shift: 0.0,
-        offset: 0.0,
+        rmse: Hertz(LARGEST_FINITE),
+        shift: Seconds(0.0),
+        offset: Hertz(0.0),
     };
     let best = run_stage(
         instants,
         positions,
         samples,
         frequencies,
-        observer,
-        f0,
-        tolerance,
-        centre - 15.0,
-        0.1,
-        301,
+        settings,
+        coarse_about(centre),
         values,
         none,
     );
-    if !(magnitude(centre) > 5.0) {
+    if !(magnitude(centre.0) > FAR_CENTRE) {
         return best;
     }
     run_stage(
@@ -154,13 +208,46 @@ pub(crate) fn coarse_stage(
         positions,
         samples,
         frequencies,
-        observer,
-        f0,
-        tolerance,
-        0.0 - 15.0,
-        0.1,
-        301,
+        settings,
+        coarse_about(Seconds(0.0)),
         values,
         best,
+    )
+}
+
+// The least so far after the fine and the micro shifts, each about the best shift before.
+pub(crate) fn refine(
+    instants: &[i64],
+    positions: &[f64],
+    samples: &[i64],
+    frequencies: &[f64],
+    settings: Settings,
+    values: &mut [f64],
+    best: LeastSoFar,
+) -> LeastSoFar
+    requires { ⌜ FitAreas (now instants) (now positions) (now samples) (now frequencies) (now values) × Within farthestCoarse (best .shift .0) ⌝ }
+    ensures { λ r. ⌜ r ≡ refined
+        (trialBy (now (instants .entry)) (now (positions .entry)) (now (samples .entry)) (now (frequencies .entry)) settings) best
+        ⌝ }
+{
+    let fine = run_stage(
+        instants,
+        positions,
+        samples,
+        frequencies,
+        settings,
+        fine_about(best.shift),
+        values,
+        best,
+    );
+    run_stage(
+        instants,
+        positions,
+        samples,
+        frequencies,
+        settings,
+        micro_about(fine.shift),
+        values,
+        fine,
     )
 }

@@ -4,12 +4,16 @@ ghost use mathlib.Core.Bool.{false};
 ghost use Prim.Native.Nat.{_+_, _*_, _<_, _≤_};
 ghost use lib.ListN.{length};
 ghost use Rattle.checks.specs.Checks.{unrising};
-ghost use Rattle.orbit.specs.Window.{lastBefore, startOf, windowStart, secondsOf, windowSeconds, uneven, tauOf, nodeMatrix, axisOf, modelOr, modelAt, blankModel, modelAnswer, chebyshevModel};
+ghost use Rattle.checks.specs.Limits.{axes};
+ghost use Rattle.orbit.specs.Window.{lastBefore, startOf, windowStart, secondsOf, windowSeconds, uneven, tauOf, nodeMatrix, axisOf};
+ghost use Rattle.orbit.specs.Window.{modelOr, modelAt, blankModel, modelAnswer, getChebyshevModel};
 ghost use Rattle.chebyshev.specs.Inverse.{inverted};
 ghost use Rattle.chebyshev.specs.Ideal.{idealMatrix};
+use crate::settings::EVEN_TOLERANCE;
 use chebyshev::coefficients_through;
 use chebyshev::ideal_coefficients;
 use chebyshev::values_at;
+use checks::AXES;
 use checks::refuse_propagation;
 use float::magnitude;
 use float::nearest;
@@ -32,16 +36,16 @@ pub struct Model {
 }
 
 // The index of the last coordinate at or before the instant, or 0: found by halving.
-fn last_before(instants: &[i64], t: i64) -> usize
+fn last_before(instants: &[i64], t: Nanoseconds) -> usize
     requires { ⌜ (0 < length (now instants)) × (unrising (now instants) ≡ false) ⌝ }
-    ensures { λ r. ⌜ (r < length (now (instants .entry))) × (r ≡ lastBefore (now (instants .entry)) t) ⌝ }
+    ensures { λ r. ⌜ (r < length (now (instants .entry))) × (r ≡ lastBefore (now (instants .entry)) (t .0)) ⌝ }
 {
     let mut base: usize = 0;
     let mut size = instants.len();
     while size > 1 {
         let half = size / 2;
         let middle = base + half;
-        if instants[middle] <= t {
+        if instants[middle] <= t.0 {
             base = middle;
         }
         size -= half;
@@ -64,39 +68,40 @@ fn start_of(idx: usize, n: usize) -> usize
 }
 
 // The start of the window about an instant.
-pub(crate) fn window_start(instants: &[i64], t: i64) -> usize
+pub(crate) fn window_start(instants: &[i64], t: Nanoseconds) -> usize
     requires { ⌜ (10 ≤ length (now instants)) × (unrising (now instants) ≡ false) ⌝ }
-    ensures { λ r. ⌜ (r + 10 ≤ length (now (instants .entry))) × (r ≡ windowStart (now (instants .entry)) t) ⌝ }
+    ensures { λ r. ⌜ (r + 10 ≤ length (now (instants .entry))) × (r ≡ windowStart (now (instants .entry)) (t .0)) ⌝ }
 {
     start_of(last_before(instants, t), instants.len())
 }
 
-// Seconds of a count of nanoseconds: rounded to a double, times 1e-9.
-pub(crate) fn seconds_of(n: i64) -> f64
-    ensures { λ r. ⌜ r ≡ secondsOf n ⌝ }
+// The seconds of an instant: its nanoseconds rounded to a double, times 1e-9.
+pub(crate) fn seconds_of(t: Nanoseconds) -> Seconds
+    ensures { λ r. ⌜ r .0 ≡ secondsOf (t .0) ⌝ }
 {
-    nearest(n) * 1e-9
+    Seconds(nearest(t.0) * 1e-9)
 }
 
-// The ten times of the window.
+// The ten times of the window, in seconds.
 fn seconds_in(instants: &[i64], start: usize) -> [f64; 10]
     requires { ⌜ start + 10 ≤ length (now instants) ⌝ }
     ensures { λ r. ⌜ r ≡ windowSeconds (now (instants .entry)) start ⌝ }
 {
     let mut t = [0.0; 10];
     for k in 0..10 {
-        t[k] = seconds_of(instants[start + k]);
+        let seconds = seconds_of(Nanoseconds(instants[start + k]));
+        t[k] = seconds.0;
     }
     t
 }
 
-// Whether a gap of the window differs from the mean gap by more than the tolerance, in seconds.
-fn is_uneven(t: [f64; 10], tolerance: f64) -> bool
+// Whether a gap of the window differs from the mean gap by more than the tolerance.
+fn is_uneven(t: [f64; 10], tolerance: Seconds) -> bool
     ensures { λ r. ⌜ r ≡ uneven tolerance t ⌝ }
 {
     let gap = (t[9] - t[0]) / 9.0;
     for k in 0..9 {
-        if magnitude((t[k + 1] - t[k]) - gap) > tolerance {
+        if magnitude((t[k + 1] - t[k]) - gap) > tolerance.0 {
             return true;
         }
     }
@@ -104,10 +109,10 @@ fn is_uneven(t: [f64; 10], tolerance: f64) -> bool
 }
 
 // τ of a time between t0 and t9: −1 at the first, 1 at the last.
-pub(crate) fn tau_of(t0: f64, t9: f64, t: f64) -> f64
-    ensures { λ r. ⌜ r ≡ tauOf t0 t9 t ⌝ }
+pub(crate) fn tau_of(t0: Seconds, t9: Seconds, t: Seconds) -> f64
+    ensures { λ r. ⌜ r ≡ tauOf (t0 .0) (t9 .0) (t .0) ⌝ }
 {
-    2.0 * (t - t0) / (t9 - t0) - 1.0
+    2.0 * (t.0 - t0.0) / (t9.0 - t0.0) - 1.0
 }
 
 // One row for each of the ten times: T0 to T9 at its τ.
@@ -116,26 +121,26 @@ fn nodes_of(t: [f64; 10]) -> [[f64; 10]; 10]
 {
     let mut rows = [[0.0; 10]; 10];
     for k in 0..10 {
-        rows[k] = values_at(tau_of(t[0], t[9], t[k]));
+        rows[k] = values_at(tau_of(Seconds(t[0]), Seconds(t[9]), Seconds(t[k])));
     }
     rows
 }
 
 // One axis of the window's ten positions: 0 is x, 1 is y, 2 is z.
 fn axis_of(positions: &[f64], start: usize, axis: usize) -> [f64; 10]
-    requires { ⌜ (axis < 3) × (3 * (start + 10) ≤ length (now positions)) ⌝ }
+    requires { ⌜ (axis < axes) × (axes * (start + 10) ≤ length (now positions)) ⌝ }
     ensures { λ r. ⌜ r ≡ axisOf (now (positions .entry)) start axis ⌝ }
 {
     let mut p = [0.0; 10];
     for k in 0..10 {
-        p[k] = positions[3 * (start + k) + axis];
+        p[k] = positions[AXES * (start + k) + axis];
     }
     p
 }
 
 // The model of an even window, by the ideal inverse.
 fn even_model(positions: &[f64], start: usize, t: [f64; 10]) -> Model
-    requires { ⌜ 3 * (start + 10) ≤ length (now positions) ⌝ }
+    requires { ⌜ axes * (start + 10) ≤ length (now positions) ⌝ }
     ensures { λ r. ⌜ r ≡ modelAnswer (modelOr (inverted idealMatrix) t (now (positions .entry)) start) ⌝ }
 {
     let cx = ideal_coefficients(axis_of(positions, start, 0));
@@ -172,7 +177,7 @@ fn refused_model(refusal: u8) -> Model
 
 // The model of an uneven window, by the inverse of its own nodes' matrix; refused by 8 where that has none.
 fn uneven_model(positions: &[f64], start: usize, t: [f64; 10]) -> Model
-    requires { ⌜ 3 * (start + 10) ≤ length (now positions) ⌝ }
+    requires { ⌜ axes * (start + 10) ≤ length (now positions) ⌝ }
     ensures { λ r. ⌜ r ≡ modelAnswer (modelOr (inverted (nodeMatrix t)) t (now (positions .entry)) start) ⌝ }
 {
     let c = coefficients_through(
@@ -201,8 +206,13 @@ fn uneven_model(positions: &[f64], start: usize, t: [f64; 10]) -> Model
 }
 
 // The model of the window that begins at start.
-pub(crate) fn model_at(instants: &[i64], positions: &[f64], start: usize, tolerance: f64) -> Model
-    requires { ⌜ (start + 10 ≤ length (now instants)) × (3 * (start + 10) ≤ length (now positions)) ⌝ }
+pub(crate) fn model_at(
+    instants: &[i64],
+    positions: &[f64],
+    start: usize,
+    tolerance: Seconds,
+) -> Model
+    requires { ⌜ (start + 10 ≤ length (now instants)) × (axes * (start + 10) ≤ length (now positions)) ⌝ }
     ensures { λ r. ⌜ r ≡ modelAnswer (modelAt tolerance (now (instants .entry)) (now (positions .entry)) start) ⌝ }
 {
     let t = seconds_in(instants, start);
@@ -214,12 +224,16 @@ pub(crate) fn model_at(instants: &[i64], positions: &[f64], start: usize, tolera
 
 // The Chebyshev model of the window about an instant.
 pub fn get_chebyshev_model(instants: &[i64], positions: &[f64], instant: Nanoseconds) -> Model
-    ensures { λ r. ⌜ r ≡ modelAnswer (chebyshevModel (now (instants .entry)) (now (positions .entry)) (instant .0)) ⌝ }
+    ensures { λ r. ⌜ r ≡ modelAnswer (getChebyshevModel (now (instants .entry)) (now (positions .entry)) (instant .0)) ⌝ }
 {
     let refusal = refuse_propagation(instants, positions, instant);
     if refusal != 0 {
         return refused_model(refusal);
     }
-    let t = instant.0;
-    model_at(instants, positions, window_start(instants, t), 1.0)
+    model_at(
+        instants,
+        positions,
+        window_start(instants, instant),
+        EVEN_TOLERANCE,
+    )
 }

@@ -10,18 +10,20 @@ use lib.ListN.{length, getD}
 use lib.Ieee.{Float, lt}
 use Rattle.common.specs.Numbers.{nought}
 use Rattle.units.specs.declared.Observer.{Observer}
+use Rattle.chebyshev.specs.Inverse.{Matrix, inverted}
+use Rattle.chebyshev.proofs.Columns.{inverted-told}
 use Rattle.orbit.proofs.Models.{inversion-told}
 use Rattle.common.specs.Outcome.{Told, mapped, Outcome, refused, answered, outcome, unlessRefused, refusalIn}
 use Rattle.checks.specs.Entries.{firstFailing, evaluationChecks, propagationChecks, closestChecks, samplesChecks, fitChecks}
-use Rattle.samples.specs.Means.{recording, means, meansRefusal, meansCount}
-use Rattle.samples.specs.Approach.{noFloor, steepestSlope, leastSlope, approachOf, measuredApproach, steepest}
+use Rattle.samples.specs.Means.{recording, means, downsampleRefusal, downsampleData}
+use Rattle.samples.specs.Approach.{noFloor, slopeFloor, leastSlope, approachOf, estimateMeasuredPcaTime, steepestSlope}
 use Rattle.orbit.specs.declared.window.ChebyshevOrbit.{ChebyshevOrbit}
-use Rattle.orbit.specs.Window.{evenTolerance, windowStart, windowSeconds, inversionOf, modelAbout, chebyshevModel}
-use Rattle.orbit.specs.Propagation.{motionAt, evaluated, evaluation, propagation}
-use Rattle.orbit.specs.Closest.{closestInstant, closestApproach}
+use Rattle.orbit.specs.Window.{evenTolerance, windowStart, windowSeconds, inversionOf, modelAbout, getChebyshevModel}
+use Rattle.orbit.specs.Propagation.{motionAt, evaluate, propagateEcef}
+use Rattle.orbit.specs.Closest.{closestInstant, findPcaTime}
 use Rattle.orbit.specs.Residuals.{Inputs, residualOf}
-use Rattle.orbit.specs.Fit.{Trial, trial, Best, noneYet, found, reportOf, firstLeast, shifts, fitBy, centreOf, fitted, satelliteFit}
-use Rattle.orbit.specs.Passes.{measuredOf, passRefusal, passOutcome, passReport}
+use Rattle.orbit.specs.Fit.{Trial, trial, Best, noneYet, found, Basis, basisOf, reportOfBest, firstLeast, shifts, fitByTrials, centreOf, fitOf, fitSatellite}
+use Rattle.orbit.specs.Passes.{measuredOf, passRefusal, passOutcome, pass}
 
 -- the number 0 is an answer's
 pub answered-by-zero : {A : Type 0} (o : Outcome A) → Told o → refusalIn o ≡ 0 → (a : A) × (o ≡ answered a)
@@ -44,57 +46,56 @@ by-answer f (refused zero) t = t
 by-answer f (refused (suc n)) t = tt
 by-answer f (answered a) t = tt
 
-by-model : (o : Outcome ChebyshevOrbit) (t : ℤ) → Told o → Told (evaluated o t)
-by-model (refused zero) t h = h
-by-model (refused (suc n)) t h = tt
-by-model (answered m) t h = tt
-
 by-slope : (b : Bool) (t : ℤ) → Told (cond b (answered t) (refused 9))
 by-slope true t = tt
 by-slope false t = tt
 
-by-best : (n : ℕ) (b : Best) → Told (reportOf n b)
-by-best n noneYet = tt
-by-best n (found t) = tt
+by-best : (basis : Basis) (b : Best) → Told (reportOfBest basis b)
+by-best basis noneYet = tt
+by-best basis (found t) = tt
 
-by-fit : (try : Float → Trial) (n : ℕ) (centre : Float) → Told (fitBy try n centre)
-unfolding fitBy
-by-fit try n centre = by-best n (firstLeast try (shifts try centre))
+by-fit : (try : Float → Trial) (basis : Basis) (centre : Float) → Told (fitByTrials try basis centre)
+unfolding fitByTrials
+by-fit try basis centre = by-best basis (firstLeast try (shifts try centre))
 
 about : (instants : List ℤ) (positions : List Float) (t : ℤ) → Told (modelAbout evenTolerance instants positions t)
 about instants positions t = let w = windowSeconds instants (windowStart instants t) in by-answer _ (inversionOf evenTolerance w) (inversion-told evenTolerance w)
 
 -- ---- the entries
 
-pub model-told : (instants : List ℤ) (positions : List Float) (t : ℤ) → Told (chebyshevModel instants positions t)
+-- the inverse
+pub inverse-told : (a : Matrix) → Told (inverted a)
+inverse-told = inverted-told
+
+pub model-told : (instants : List ℤ) (positions : List Float) (t : ℤ) → Told (getChebyshevModel instants positions t)
 model-told instants positions t = after-checks (firstFailing (propagationChecks instants positions t)) (modelAbout evenTolerance instants positions t) (about instants positions t)
 
-pub evaluation-told : (m : ChebyshevOrbit) (t : ℤ) → Told (evaluation m t)
+pub evaluation-told : (m : ChebyshevOrbit) (t : ℤ) → Told (evaluate m t)
 evaluation-told m t = by-checks (firstFailing (evaluationChecks t)) (motionAt m t)
 
-pub propagation-told : (instants : List ℤ) (positions : List Float) (t : ℤ) → Told (propagation instants positions t)
+pub propagation-told : (instants : List ℤ) (positions : List Float) (t : ℤ) → Told (propagateEcef instants positions t)
 propagation-told instants positions t =
     let m = modelAbout evenTolerance instants positions t in
-    after-checks (firstFailing (propagationChecks instants positions t)) (evaluated m t) (by-model m t (about instants positions t))
+    after-checks (firstFailing (propagationChecks instants positions t)) (mapped (λ x. motionAt x t) m) (by-answer (λ x. motionAt x t) m (about instants positions t))
 
-pub closest-told : (instants : List ℤ) (positions : List Float) (o : Observer) (t : ℤ) → Told (closestApproach instants positions o t)
-closest-told instants positions o t = by-checks (firstFailing (closestChecks instants positions (o .x .0) (o .y .0) (o .z .0) t)) (closestInstant evenTolerance instants positions o t)
+pub closest-told : (instants : List ℤ) (positions : List Float) (o : Observer) (t : ℤ) → Told (findPcaTime instants positions o t)
+closest-told instants positions o t = by-checks (firstFailing (closestChecks instants positions o t)) (closestInstant evenTolerance instants positions o t)
 
-pub means-told : (ts : List ℤ) (fs : List Float) (is : List ℤ) (hs : List Float) → Told (meansCount ts fs is hs)
-means-told ts fs is hs = by-checks (meansRefusal ts fs is hs) (length (means (recording ts fs)))
+pub means-told : (ts : List ℤ) (fs : List Float) (is : List ℤ) (hs : List Float) → Told (downsampleData ts fs is hs)
+means-told ts fs is hs = by-checks (downsampleRefusal ts fs is hs) (length (means (recording ts fs)))
 
-pub approach-told : (ts : List ℤ) (fs : List Float) → Told (measuredApproach ts fs)
+pub approach-told : (ts : List ℤ) (fs : List Float) → Told (estimateMeasuredPcaTime ts fs)
 approach-told ts fs = let best = leastSlope noFloor ts fs in after-checks (firstFailing (samplesChecks ts fs)) (approachOf ts fs) (by-slope (lt (best .slope) nought) (getD ts (best .middle) (pos 0)))
 
-pub steepest-told : (ts : List ℤ) (fs : List Float) → Told (steepest ts fs)
-steepest-told ts fs = by-checks (firstFailing (samplesChecks ts fs)) (leastSlope steepestSlope ts fs .slope)
+pub steepest-told : (ts : List ℤ) (fs : List Float) → Told (steepestSlope ts fs)
+steepest-told ts fs = by-checks (firstFailing (samplesChecks ts fs)) (leastSlope slopeFloor ts fs .slope)
 
-pub fit-told : (i : Inputs) (ts : List ℤ) (fs : List Float) (measured : ℤ) → Told (satelliteFit i ts fs measured)
+pub fit-told : (i : Inputs) (ts : List ℤ) (fs : List Float) (measured : ℤ) → Told (fitSatellite i ts fs measured)
 fit-told i ts fs measured =
-    after-checks (firstFailing (fitChecks (i .instants) (i .positions) ts fs (i .observer .x .0) (i .observer .y .0) (i .observer .z .0) (i .f0) measured)) (fitted i (recording ts fs) measured)
-    (by-fit (trial (residualOf i) (recording ts fs)) (length (recording ts fs)) (centreOf i measured))
+    after-checks (firstFailing (fitChecks (i .instants) (i .positions) ts fs (i .settings .observer) (i .settings .f0) measured)) (fitOf i (recording ts fs) measured)
+    (by-fit (trial (residualOf i) (recording ts fs)) (basisOf (recording ts fs)) (centreOf i measured))
 
-pub pass-told : (i : Inputs) (ts : List ℤ) (fs : List Float) (is : List ℤ) (hs : List Float) → Told (passReport i ts fs is hs)
+pub pass-told : (i : Inputs) (ts : List ℤ) (fs : List Float) (is : List ℤ) (hs : List Float) → Told (pass i ts fs is hs)
 pass-told i ts fs is hs =
     let M = means (recording ts fs) in
-    after-checks (passRefusal i ts fs is hs) (passOutcome i (recording ts fs)) (by-fit (trial (residualOf i) M) (length M) (centreOf i (measuredOf M)))
+    after-checks (passRefusal i ts fs is hs) (passOutcome i (recording ts fs)) (by-fit (trial (residualOf i) M) (basisOf M) (centreOf i (measuredOf M .instant .0)))

@@ -47,7 +47,9 @@ fn rows_of(rows: &[f64; 100]) -> [[f64; 10]; 10]
 // The inverse of the matrix, row after row, into `inverse`, and 0; or 8, and `inverse` untouched.
 #[no_mangle]
 pub extern "C" fn orbit_invert_matrix_10(rows: &[f64; 100], inverse: &mut [f64; 100]) -> u8
-    ensures { λ r. ⌜ (r ≡ refusalIn (inverted (rowsIn (now (rows .entry))))) × (now (inverse .exit) ≡ areaOf flat (inverted (rowsIn (now (rows .entry)))) (now (inverse .entry))) ⌝ }
+    ensures { λ r. ⌜ (r ≡ refusalIn (inverted (rowsIn (now (rows .entry)))))
+        × (now (inverse .exit) ≡ areaOf flat (inverted (rowsIn (now (rows .entry)))) (now (inverse .entry)))
+        ⌝ }
 {
     let i = chebyshev::invert_matrix_10(rows_of(rows));
     let refusal = i.refusal;

@@ -1,12 +1,10 @@
 // The fit of a recording to a satellite, and the whole pass.
 ghost use mathlib.Core.Path.{_≡_};
 ghost use Rattle.common.specs.Outcome.{refusalIn, areaOf};
-ghost use Rattle.orbit.specs.Window.{evenTolerance};
-ghost use Rattle.orbit.specs.Fit.{satelliteFit, fitIn};
-ghost use Rattle.orbit.specs.Residuals.{inputsOf};
-ghost use Rattle.orbit.specs.Passes.{passReport, passInstants, passFrequencies};
+ghost use Rattle.orbit.specs.Fit.{fitSatellite, fitIn};
+ghost use Rattle.orbit.specs.Passes.{pass, passInstants, passFrequencies};
 ghost use Rattle.orbit.specs.declared.fit.Report.{Report};
-ghost use Rattle.orbit_abi.specs.Models.{observerOf, reportNumbers};
+ghost use Rattle.orbit_abi.specs.Models.{inputsIn, reportNumbers};
 use orbit::Fitted;
 use units::Hertz;
 use units::Metres;
@@ -15,11 +13,14 @@ use units::Observer;
 
 // A report's three numbers and its count into their areas, or the refusal.
 fn fitted_into(found: Fitted, report: &mut [f64; 3], count: &mut u64) -> u8
-    ensures { λ r. ⌜ (r ≡ refusalIn (fitIn found)) × (now (report .exit) ≡ areaOf reportNumbers (fitIn found) (now (report .entry))) × (now (count .exit) ≡ areaOf (λ (x : Report). x .count) (fitIn found) (now (count .entry))) ⌝ }
+    ensures { λ r. ⌜ (r ≡ refusalIn (fitIn found))
+        × (now (report .exit) ≡ areaOf reportNumbers (fitIn found) (now (report .entry)))
+        × (now (count .exit) ≡ areaOf (λ (x : Report). x .count) (fitIn found) (now (count .entry)))
+        ⌝ }
 {
     match found {
         Fitted::Fit(f) => {
-            let three = [f.clock.0, f.frequency.0, f.rmse.0];
+            let three = [f.clock_offset.0, f.frequency_offset.0, f.rmse.0];
             *report = three;
             *count = f.count as u64;
             0
@@ -43,9 +44,18 @@ pub extern "C" fn orbit_fit_satellite(
     report: &mut [f64; 3],
     count: &mut u64,
 ) -> u8
-    ensures { λ r. ⌜ r ≡ refusalIn (satelliteFit (inputsOf evenTolerance (now (instants .entry)) (now (positions .entry)) (observerOf ox oy oz) (f0 .0)) (now (samples .entry)) (now (frequencies .entry)) (measured .0)) ⌝ }
-    ensures { λ r. ⌜ now (report .exit) ≡ areaOf reportNumbers (satelliteFit (inputsOf evenTolerance (now (instants .entry)) (now (positions .entry)) (observerOf ox oy oz) (f0 .0)) (now (samples .entry)) (now (frequencies .entry)) (measured .0)) (now (report .entry)) ⌝ }
-    ensures { λ r. ⌜ now (count .exit) ≡ areaOf (λ (x : Report). x .count) (satelliteFit (inputsOf evenTolerance (now (instants .entry)) (now (positions .entry)) (observerOf ox oy oz) (f0 .0)) (now (samples .entry)) (now (frequencies .entry)) (measured .0)) (now (count .entry)) ⌝ }
+    ensures { λ r. ⌜ r ≡ refusalIn (fitSatellite
+        (inputsIn (now (instants .entry)) (now (positions .entry)) ox oy oz f0)
+        (now (samples .entry)) (now (frequencies .entry)) (measured .0))
+        ⌝ }
+    ensures { λ r. ⌜ now (report .exit) ≡ areaOf reportNumbers (fitSatellite
+        (inputsIn (now (instants .entry)) (now (positions .entry)) ox oy oz f0)
+        (now (samples .entry)) (now (frequencies .entry)) (measured .0)) (now (report .entry))
+        ⌝ }
+    ensures { λ r. ⌜ now (count .exit) ≡ areaOf (λ (x : Report). x .count) (fitSatellite
+        (inputsIn (now (instants .entry)) (now (positions .entry)) ox oy oz f0)
+        (now (samples .entry)) (now (frequencies .entry)) (measured .0)) (now (count .entry))
+        ⌝ }
 {
     let observer = Observer {
         x: ox,
@@ -64,7 +74,8 @@ pub extern "C" fn orbit_fit_satellite(
     fitted_into(found, report, count)
 }
 
-// Clock offset (seconds), frequency offset and RMSE (hertz) of a recording's one-second means, and how many means there are. The means go to the front of their two areas, and stay there under refusal 10.
+// Clock offset (seconds), frequency offset and RMSE (hertz) of a recording's one-second means, and how many means there are. The means go to the front
+// of their two areas, and stay there under refusal 10.
 #[no_mangle]
 pub extern "C" fn orbit_pass(
     instants: &[i64],
@@ -80,11 +91,26 @@ pub extern "C" fn orbit_pass(
     report: &mut [f64; 3],
     count: &mut u64,
 ) -> u8
-    ensures { λ r. ⌜ r ≡ refusalIn (passReport (inputsOf evenTolerance (now (instants .entry)) (now (positions .entry)) (observerOf ox oy oz) (f0 .0)) (now (samples .entry)) (now (frequencies .entry)) (now («mean_instants» .entry)) (now («mean_frequencies» .entry))) ⌝ }
-    ensures { λ r. ⌜ now (report .exit) ≡ areaOf reportNumbers (passReport (inputsOf evenTolerance (now (instants .entry)) (now (positions .entry)) (observerOf ox oy oz) (f0 .0)) (now (samples .entry)) (now (frequencies .entry)) (now («mean_instants» .entry)) (now («mean_frequencies» .entry))) (now (report .entry)) ⌝ }
-    ensures { λ r. ⌜ now (count .exit) ≡ areaOf (λ (x : Report). x .count) (passReport (inputsOf evenTolerance (now (instants .entry)) (now (positions .entry)) (observerOf ox oy oz) (f0 .0)) (now (samples .entry)) (now (frequencies .entry)) (now («mean_instants» .entry)) (now («mean_frequencies» .entry))) (now (count .entry)) ⌝ }
-    ensures { λ r. ⌜ now («mean_instants» .exit) ≡ passInstants (inputsOf evenTolerance (now (instants .entry)) (now (positions .entry)) (observerOf ox oy oz) (f0 .0)) (now (samples .entry)) (now (frequencies .entry)) (now («mean_instants» .entry)) (now («mean_frequencies» .entry)) ⌝ }
-    ensures { λ r. ⌜ now («mean_frequencies» .exit) ≡ passFrequencies (inputsOf evenTolerance (now (instants .entry)) (now (positions .entry)) (observerOf ox oy oz) (f0 .0)) (now (samples .entry)) (now (frequencies .entry)) (now («mean_instants» .entry)) (now («mean_frequencies» .entry)) ⌝ }
+    ensures { λ r. ⌜ r ≡ refusalIn (pass
+        (inputsIn (now (instants .entry)) (now (positions .entry)) ox oy oz f0)
+        (now (samples .entry)) (now (frequencies .entry)) (now («mean_instants» .entry)) (now («mean_frequencies» .entry)))
+        ⌝ }
+    ensures { λ r. ⌜ now (report .exit) ≡ areaOf reportNumbers (pass
+        (inputsIn (now (instants .entry)) (now (positions .entry)) ox oy oz f0)
+        (now (samples .entry)) (now (frequencies .entry)) (now («mean_instants» .entry)) (now («mean_frequencies» .entry))) (now (report .entry))
+        ⌝ }
+    ensures { λ r. ⌜ now (count .exit) ≡ areaOf (λ (x : Report). x .count) (pass
+        (inputsIn (now (instants .entry)) (now (positions .entry)) ox oy oz f0)
+        (now (samples .entry)) (now (frequencies .entry)) (now («mean_instants» .entry)) (now («mean_frequencies» .entry))) (now (count .entry))
+        ⌝ }
+    ensures { λ r. ⌜ now («mean_instants» .exit) ≡ passInstants
+        (inputsIn (now (instants .entry)) (now (positions .entry)) ox oy oz f0)
+        (now (samples .entry)) (now (frequencies .entry)) (now («mean_instants» .entry)) (now («mean_frequencies» .entry))
+        ⌝ }
+    ensures { λ r. ⌜ now («mean_frequencies» .exit) ≡ passFrequencies
+        (inputsIn (now (instants .entry)) (now (positions .entry)) ox oy oz f0)
+        (now (samples .entry)) (now (frequencies .entry)) (now («mean_instants» .entry)) (now («mean_frequencies» .entry))
+        ⌝ }
 {
     let observer = Observer {
         x: ox,

@@ -3,9 +3,9 @@ ghost use mathlib.Core.Path.{_≡_};
 ghost use Prim.Native.Nat.{_<_, _≤_};
 ghost use lib.IntN.{ℤ};
 ghost use Rattle.common.specs.Outcome.{refusalIn, areaOf};
-ghost use Rattle.orbit.specs.Window.{chebyshevModel};
-ghost use Rattle.orbit.specs.Propagation.{evaluation, propagation, motionIn};
-ghost use Rattle.orbit.specs.Closest.{closestApproach};
+ghost use Rattle.orbit.specs.Window.{getChebyshevModel};
+ghost use Rattle.orbit.specs.Propagation.{evaluate, propagateEcef, motionIn};
+ghost use Rattle.orbit.specs.Closest.{findPcaTime};
 ghost use Rattle.orbit_abi.specs.Models.{modelNumber, modelNumbers, rowFrom, modelIn, motionNumbers, observerOf};
 use orbit::ChebyshevOrbit;
 use orbit::ClosestApproach;
@@ -85,7 +85,9 @@ pub extern "C" fn orbit_get_chebyshev_model(
     instant: Nanoseconds,
     model: &mut [f64; 32],
 ) -> u8
-    ensures { λ r. ⌜ (r ≡ refusalIn (chebyshevModel (now (instants .entry)) (now (positions .entry)) (instant .0))) × (now (model .exit) ≡ areaOf modelNumbers (chebyshevModel (now (instants .entry)) (now (positions .entry)) (instant .0)) (now (model .entry))) ⌝ }
+    ensures { λ r. ⌜ (r ≡ refusalIn (getChebyshevModel (now (instants .entry)) (now (positions .entry)) (instant .0)))
+        × (now (model .exit) ≡ areaOf modelNumbers (getChebyshevModel (now (instants .entry)) (now (positions .entry)) (instant .0)) (now (model .entry)))
+        ⌝ }
 {
     let m = orbit::get_chebyshev_model(instants, positions, instant);
     let refusal = m.refusal;
@@ -114,7 +116,9 @@ fn motion_into(found: Propagation, out: &mut [f64; 6]) -> u8
 // Position (metres) and velocity (metres for each second) by a model at an instant: x, y, z each.
 #[no_mangle]
 pub extern "C" fn orbit_evaluate(model: &[f64; 32], instant: Nanoseconds, out: &mut [f64; 6]) -> u8
-    ensures { λ r. ⌜ (r ≡ refusalIn (evaluation (modelIn (now (model .entry))) (instant .0))) × (now (out .exit) ≡ areaOf motionNumbers (evaluation (modelIn (now (model .entry))) (instant .0)) (now (out .entry))) ⌝ }
+    ensures { λ r. ⌜ (r ≡ refusalIn (evaluate (modelIn (now (model .entry))) (instant .0)))
+        × (now (out .exit) ≡ areaOf motionNumbers (evaluate (modelIn (now (model .entry))) (instant .0)) (now (out .entry)))
+        ⌝ }
 {
     motion_into(orbit::evaluate(model_of(model), instant), out)
 }
@@ -127,7 +131,9 @@ pub extern "C" fn orbit_propagate_ecef(
     instant: Nanoseconds,
     out: &mut [f64; 6],
 ) -> u8
-    ensures { λ r. ⌜ (r ≡ refusalIn (propagation (now (instants .entry)) (now (positions .entry)) (instant .0))) × (now (out .exit) ≡ areaOf motionNumbers (propagation (now (instants .entry)) (now (positions .entry)) (instant .0)) (now (out .entry))) ⌝ }
+    ensures { λ r. ⌜ (r ≡ refusalIn (propagateEcef (now (instants .entry)) (now (positions .entry)) (instant .0)))
+        × (now (out .exit) ≡ areaOf motionNumbers (propagateEcef (now (instants .entry)) (now (positions .entry)) (instant .0)) (now (out .entry)))
+        ⌝ }
 {
     motion_into(orbit::propagate_ecef(instants, positions, instant), out)
 }
@@ -143,7 +149,10 @@ pub extern "C" fn orbit_find_pca_time(
     instant: Nanoseconds,
     found: &mut i64,
 ) -> u8
-    ensures { λ r. ⌜ (r ≡ refusalIn (closestApproach (now (instants .entry)) (now (positions .entry)) (observerOf ox oy oz) (instant .0))) × (now (found .exit) ≡ areaOf (λ (t : ℤ). t) (closestApproach (now (instants .entry)) (now (positions .entry)) (observerOf ox oy oz) (instant .0)) (now (found .entry))) ⌝ }
+    ensures { λ r. ⌜ (r ≡ refusalIn (findPcaTime (now (instants .entry)) (now (positions .entry)) (observerOf ox oy oz) (instant .0)))
+        × (now (found .exit) ≡ areaOf (λ (t : ℤ). t)
+        (findPcaTime (now (instants .entry)) (now (positions .entry)) (observerOf ox oy oz) (instant .0)) (now (found .entry)))
+        ⌝ }
 {
     let observer = Observer {
         x: ox,

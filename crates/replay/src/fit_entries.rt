@@ -26,8 +26,8 @@ fn print_fit(out: &mut [u8], waiting: usize, fit: Fitted) -> usize {
         Fitted::Refused(refusal) => print_decimal(out, waiting, refusal as u64),
         Fitted::Fit(report) => {
             let at = print_decimal(out, waiting, 0);
-            let at = print_double(out, at, report.clock.0);
-            let at = print_double(out, at, report.frequency.0);
+            let at = print_double(out, at, report.clock_offset.0);
+            let at = print_double(out, at, report.frequency_offset.0);
             let at = print_double(out, at, report.rmse.0);
             print_word(out, at, report.count as u64)
         }

@@ -4,12 +4,12 @@ use mathlib.Core.Path.{_≡_, refl, ap, _∙_, subst}
 use mathlib.Core.Logic.{_≢_, _↔_}
 use mathlib.Core.Bool.{Bool, true, false, not, cond}
 use mathlib.Core.List.{List}
-use Prim.Native.Nat.{ℕ, _+_, _-_, _≤_, _<_}
+use Prim.Native.Nat.{ℕ, _-_, _≤_, _<_}
 use native.Mathlib.Omega.{arith}
 use lib.Dec.{T, T-not, not-T}
 use lib.IntN.{ℤ, pos}
 use lib.ListN.{length, getD}
-use lib.Ieee.{Float, nan, inf, fin, lt, le}
+use lib.Ieee.{Float, nan, inf, fin, lt}
 use lib.Ieee.Fits.{and-l, and-r, and-i}
 use Rattle.common.specs.Numbers.{nought}
 use Rattle.common.specs.Search.{FirstOfBest, Searched, kept, won}
@@ -18,27 +18,14 @@ use Rattle.common.proofs.Search.{first-of-best}
 use Rattle.float.proofs.Leasts.{least-first}
 use Rattle.common.specs.Outcome.{Outcome, refused, answered}
 use Rattle.samples.specs.declared.approach.LeastSlope.{LeastSlope}
-use Rattle.samples.specs.Approach.{noFloor, gapAt, slopeAt, sloped, counts, steeper, flat, leastSlope, approachOf}
+use Rattle.samples.specs.Approach.{noFloor, gapAt, slopeAt, sloped, counts, steeper, noSlopeYet, leastSlope, approachOf, Falls, FirstFall}
 use Rattle.samples.proofs.Slopes.{rest-start}
 
 -- at any floor: slope +0.0 where no sample that counts has a slope below zero, else the first of the least
-pub first-slope : (floor : Float) (ts : List ℤ) (fs : List Float) → Searched (steeper floor ts) flat (sloped ts fs) 1 (length ts - 1) (leastSlope floor ts fs)
-first-slope floor ts fs = subst (Searched (steeper floor ts) flat (sloped ts fs) 1 (length ts - 1)) (rest-start floor ts fs) (first-of-best (steeper floor ts) (least-first (counts floor ts) (λ s. s .slope)) flat (sloped ts fs) 1 (length ts - 1))
+pub first-slope : (floor : Float) (ts : List ℤ) (fs : List Float) → Searched (steeper floor ts) noSlopeYet (sloped ts fs) 1 (length ts - 1) (leastSlope floor ts fs)
+first-slope floor ts fs = subst (Searched (steeper floor ts) noSlopeYet (sloped ts fs) 1 (length ts - 1)) (rest-start floor ts fs) (first-of-best (steeper floor ts) (least-first (counts floor ts) (λ s. s .slope)) noSlopeYet (sloped ts fs) 1 (length ts - 1))
 
 -- ---- the measured approach
-
--- "only where positive", "a slope below zero": sample j stands between two others, the seconds from the one to the other are above zero, and the slope is below zero
-pub record Falls (ts : List ℤ) (fs : List Float) (j : ℕ) : Type 0 where
-  pub after : 0 < j
-  pub before : j + 1 < length ts
-  pub positive : T (lt nought (gapAt ts j))
-  pub falling : T (lt (slopeAt ts fs j) nought)
-
--- "the first least below zero": every other such sample has at least the slope of sample i, and every earlier one a larger slope
-pub record FirstFall (ts : List ℤ) (fs : List Float) (i : ℕ) : Type 0 where
-  pub falls : Falls ts fs i
-  pub least : (j : ℕ) → Falls ts fs j → T (le (slopeAt ts fs i) (slopeAt ts fs j))
-  pub first : (j : ℕ) → j < i → Falls ts fs j → T (lt (slopeAt ts fs i) (slopeAt ts fs j))
 
 -- nothing is under −infinity
 none-under : (x : Float) → T (not (lt x noFloor))
@@ -58,20 +45,20 @@ module _ (ts : List ℤ) (fs : List Float) where
   below-by : (j : ℕ) (t : LeastSlope) → T (steeper noFloor ts (sloped ts fs j) t) → T (lt (slopeAt ts fs j) (t .slope))
   below-by j t = and-r (counts noFloor ts (sloped ts fs j)) (lt (slopeAt ts fs j) (t .slope))
 
-  falls-beats : (j : ℕ) → Falls ts fs j → T (steeper noFloor ts (sloped ts fs j) flat)
-  falls-beats j f = steeper-by j flat (f .positive) (f .falling)
+  falls-beats : (j : ℕ) → Falls ts fs j → T (steeper noFloor ts (sloped ts fs j) noSlopeYet)
+  falls-beats j f = steeper-by j noSlopeYet (f .positive) (f .falling)
 
-  beats-falls : (j : ℕ) → 1 ≤ j → j < length ts - 1 → T (steeper noFloor ts (sloped ts fs j) flat) → Falls ts fs j
+  beats-falls : (j : ℕ) → 1 ≤ j → j < length ts - 1 → T (steeper noFloor ts (sloped ts fs j) noSlopeYet) → Falls ts fs j
   beats-falls j l h b =
       record {
         after = l;
         before = omega arith;
         positive = and-l (lt nought (gapAt ts j)) (not (lt (slopeAt ts fs j) noFloor)) (and-l (counts noFloor ts (sloped ts fs j)) (lt (slopeAt ts fs j) nought) b);
-        falling = below-by j flat b;
+        falling = below-by j noSlopeYet b;
       }
 
   -- the first of the best is the first of those that fall
-  first-falls : (i : ℕ) → FirstOfBest (steeper noFloor ts) flat (sloped ts fs) 1 (length ts - 1) i → FirstFall ts fs i
+  first-falls : (i : ℕ) → FirstOfBest (steeper noFloor ts) noSlopeYet (sloped ts fs) 1 (length ts - 1) i → FirstFall ts fs i
   first-falls i f =
       let here = beats-falls i (f .from) (f .inside) (f .beats) in
       record {
@@ -96,7 +83,7 @@ module _ (ts : List ℤ) (fs : List Float) where
   abbrev answerBy : LeastSlope → Outcome ℤ
   answerBy s = cond (lt (s .slope) nought) (answered (getD ts (s .middle) (pos 0))) (refused 9)
 
-  if-kept : leastSlope noFloor ts fs ≡ flat → approachOf ts fs ≡ refused 9
+  if-kept : leastSlope noFloor ts fs ≡ noSlopeYet → approachOf ts fs ≡ refused 9
   unfolding lt
   if-kept e = ap answerBy e
 
@@ -111,14 +98,14 @@ module _ (ts : List ℤ) (fs : List Float) where
   pub nine-exactly : (approachOf ts fs ≡ refused 9) ↔ ((j : ℕ) → Falls ts fs j → ⊥)
   nine-exactly = (forth (first-slope noFloor ts fs), back (first-slope noFloor ts fs))
     where
-      forth : Searched (steeper noFloor ts) flat (sloped ts fs) 1 (length ts - 1) (leastSlope noFloor ts fs) → approachOf ts fs ≡ refused 9 → (j : ℕ) → Falls ts fs j → ⊥
-      forth (kept p none) e j g = T-not (steeper noFloor ts (sloped ts fs j) flat) (none j (g .after) (omega (arith, g .before))) (falls-beats j g)
+      forth : Searched (steeper noFloor ts) noSlopeYet (sloped ts fs) 1 (length ts - 1) (leastSlope noFloor ts fs) → approachOf ts fs ≡ refused 9 → (j : ℕ) → Falls ts fs j → ⊥
+      forth (kept p none) e j g = T-not (steeper noFloor ts (sloped ts fs j) noSlopeYet) (none j (g .after) (omega (arith, g .before))) (falls-beats j g)
       forth (won i p f) e j g =
           let q = if-won i p (first-falls i f .falls .falling) in
           let z : _≡_ {A = ℕ} 0 1 = cc in
           omega arith
 
-      back : Searched (steeper noFloor ts) flat (sloped ts fs) 1 (length ts - 1) (leastSlope noFloor ts fs) → ((j : ℕ) → Falls ts fs j → ⊥) → approachOf ts fs ≡ refused 9
+      back : Searched (steeper noFloor ts) noSlopeYet (sloped ts fs) 1 (length ts - 1) (leastSlope noFloor ts fs) → ((j : ℕ) → Falls ts fs j → ⊥) → approachOf ts fs ≡ refused 9
       back (kept p none) no-fall = if-kept p
       back (won i p f) no-fall = absurd (no-fall i (first-falls i f .falls))
 
@@ -126,7 +113,7 @@ module _ (ts : List ℤ) (fs : List Float) where
   pub first-approach : approachOf ts fs ≢ refused 9 → (i : ℕ) × FirstFall ts fs i × (approachOf ts fs ≡ answered (getD ts i (pos 0))) × ((k : ℕ) → FirstFall ts fs k → k ≡ i)
   first-approach ne = go (first-slope noFloor ts fs)
     where
-      go : Searched (steeper noFloor ts) flat (sloped ts fs) 1 (length ts - 1) (leastSlope noFloor ts fs) → (i : ℕ) × FirstFall ts fs i × (approachOf ts fs ≡ answered (getD ts i (pos 0))) × ((k : ℕ) → FirstFall ts fs k → k ≡ i)
+      go : Searched (steeper noFloor ts) noSlopeYet (sloped ts fs) 1 (length ts - 1) (leastSlope noFloor ts fs) → (i : ℕ) × FirstFall ts fs i × (approachOf ts fs ≡ answered (getD ts i (pos 0))) × ((k : ℕ) → FirstFall ts fs k → k ≡ i)
       go (kept p none) = absurd (ne (if-kept p))
       go (won i p f) =
           let here = first-falls i f in

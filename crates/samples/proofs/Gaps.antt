@@ -10,6 +10,7 @@ use mir.Syntax.{w64}
 use mir.Val.{SFits, toZ, ofZ}
 use mir.ValLaws.{toZ-ofZ}
 use Rattle.float.proofs.SignedBounds.{mag-either}
+use Rattle.samples.specs.Runs.{farthestMoved}
 
 -- ---- the magnitude of a difference and of a quotient
 
@@ -34,11 +35,13 @@ mag-quotient (negsuc a) k = mag-neg (suc a / k) a (div-le-self (suc a) k)
 
 -- ---- as the machine holds them
 
+-- what the machine reads back from a number's bits; it is the number (`mir.ValLaws.toZ-ofZ`)
 abbrev pub back : ℤ → ℤ
 back z = toZ w64 (ofZ w64 z)
 
+-- an instant that is within the limit, or was before it was moved
 abbrev pub Near : ℤ → Type 0
-Near z = natAbs z ≤ 4100000000000000000
+Near z = natAbs z ≤ farthestMoved
 
 near-fits : (z : ℤ) → Near z → SFits w64 z
 near-fits (pos a) h = record { sfits = omega arith }
@@ -49,7 +52,7 @@ back-near z h = toZ-ofZ w64 z (near-fits z h)
 
 module _ (x y : ℤ) (near-x : Near x) (near-y : Near y) where
   difference-fits : SFits w64 (x -ℤ y)
-  difference-fits = let h = mag-difference 4100000000000000000 x y near-x near-y in record { sfits = omega arith }
+  difference-fits = let h = mag-difference farthestMoved x y near-x near-y in record { sfits = omega arith }
 
   quotient-fits : (k : ℕ) → SFits w64 (quotZ (x -ℤ y) (pos k))
   quotient-fits k = record { sfits = lt-of-le-of-lt (mag-quotient (x -ℤ y) k) (difference-fits .sfits) }

@@ -14,7 +14,7 @@ mod RunsOfSeconds
 mod Areas
 mod Filling
 mod Picking
-mod Reaches
+mod Limits
 mod Parting
 mod Ordering
 mod Copies

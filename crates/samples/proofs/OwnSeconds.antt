@@ -9,11 +9,14 @@ use native.Mathlib.Omega.{arith}
 use lib.Dec.{T}
 use lib.IntN.{ℤ, pos, negℤ, natAbs, _+ℤ_, _-ℤ_, _*ℤ_}
 use lib.Signed.{quotZ, _≤ℤ_}
-use lib.ListN.{length, getD}
-use Rattle.samples.specs.Means.{Sample, second, microsecond, wholeSecond, eqZ, bin, seconds, offsets, meanInstant, meanOf, means, instants}
-use Rattle.samples.proofs.Parts.{over, under, Within, le-parts, parts-le, parts-lt, add-parts, minus-parts, over-neg, under-neg, over-quot, under-quot, over-times, under-times, within-parts, abs-parts, one-sided}
+use lib.ListN.{length, take}
+use Rattle.checks.specs.Limits.{farthestInstant}
+use Rattle.common.specs.Time.{second, microsecond}
+use Rattle.samples.specs.Means.{Sample, wholeSecond, eqZ, bin, seconds, offsetSum, meanInstant, meanOf, means, instants, Under, Rising}
+use Rattle.samples.specs.Runs.{Limited}
+use Rattle.samples.proofs.Parts.{over, under, Within, le-parts, parts-le, parts-lt, add-parts, minus-parts, over-quot, under-quot, over-times, under-times, within-parts, abs-parts, one-sided}
 use Rattle.samples.proofs.Starts.{eqZ→eq, bounds, second-lt, whole-times, from-start}
-use Rattle.samples.proofs.Seconds.{Under, Rising, rising, held}
+use Rattle.samples.proofs.Seconds.{rising, held}
 
 -- each sample of the list lies from a to b
 abbrev pub Spans : ℤ → ℤ → List Sample → Type 0
@@ -31,20 +34,20 @@ module _ (lo hi : ℕ) (base : ℤ) where
   Near [] = Unit {0}
   Near (x ∷ xs) = Within lo hi (x .instant -ℤ base) × Near xs
 
-  offsets-within : (xs : List Sample) → Near xs → Within (lo / microsecond * length xs) (hi / microsecond * length xs) (offsets base xs)
-  unfolding offsets
+  pub offsets-within : (xs : List Sample) → Near xs → Within (lo / microsecond * length xs) (hi / microsecond * length xs) (offsetSum base xs)
+  unfolding offsetSum
   offsets-within [] n = omega arith
   offsets-within (x ∷ xs) n =
       let d = x .instant -ℤ base in
       let q = quotZ d (pos microsecond) in
       let p = within-parts lo hi d (n .0) in
       let r = offsets-within xs (n .1) in
-      omega (arith, p .0, p .1, r .0, r .1, over-quot d microsecond, under-quot d microsecond, add-parts q (offsets base xs), mul-suc (lo / microsecond) (length xs), mul-suc (hi / microsecond) (length xs))
+      omega (arith, p .0, p .1, r .0, r .1, over-quot d microsecond, under-quot d microsecond, add-parts q (offsetSum base xs), mul-suc (lo / microsecond) (length xs), mul-suc (hi / microsecond) (length xs))
 
   -- the offset of the mean
-  mean-within : (xs : List Sample) → Near xs → Within lo hi (quotZ (offsets base xs) (pos (length xs)) *ℤ pos microsecond)
+  pub mean-within : (xs : List Sample) → Near xs → Within lo hi (quotZ (offsetSum base xs) (pos (length xs)) *ℤ pos microsecond)
   mean-within xs n =
-      let o = offsets base xs in
+      let o = offsetSum base xs in
       let q = quotZ o (pos (length xs)) in
       let w = offsets-within xs n in
       let p = within-parts (lo / microsecond * length xs) (hi / microsecond * length xs) o w in
@@ -63,7 +66,7 @@ near-spans a b base h k (x ∷ xs) s =
 mean-spans : (a b base : ℤ) → a ≤ℤ base → base ≤ℤ b → (xs : List Sample) → Spans a b xs → (a ≤ℤ meanInstant base xs) × (meanInstant base xs ≤ℤ b)
 unfolding meanInstant
 mean-spans a b base h k xs s =
-    let z = quotZ (offsets base xs) (pos (length xs)) *ℤ pos microsecond in
+    let z = quotZ (offsetSum base xs) (pos (length xs)) *ℤ pos microsecond in
     let f = le-parts a base (h .le) in
     let g = le-parts base b (k .le) in
     let w = mean-within (below a base) (below base b) base xs (near-spans a b base h k xs s) in
@@ -83,8 +86,14 @@ abbrev pub All : ℤ → List Sample → Type 0
 All s [] = Unit {0}
 All s (x ∷ xs) = (wholeSecond (x .instant) ≡ s) × All s xs
 
+-- as the first k of such a list do
+pub all-take : (s : ℤ) (k : ℕ) (S : List Sample) → All s S → All s (take k S)
+all-take s zero S a = tt
+all-take s (suc k) [] a = tt
+all-take s (suc k) (x ∷ xs) a = (a .0, all-take s k xs (a .1))
+
 -- as those of its bin do
-pub all-in-bin : (s : ℤ) (S : List Sample) → All s (bin s S)
+all-in-bin : (s : ℤ) (S : List Sample) → All s (bin s S)
 unfolding bin
 all-in-bin s [] = tt
 all-in-bin s (x ∷ xs) = go (eqZ (wholeSecond (x .instant)) s) (eqZ→eq (wholeSecond (x .instant)) s) (all-in-bin s xs)
@@ -93,23 +102,18 @@ all-in-bin s (x ∷ xs) = go (eqZ (wholeSecond (x .instant)) s) (eqZ→eq (whole
     go true f r = (f tt, r)
     go false f r = r
 
--- two instants of one second are less than a second apart
-pub second-apart : (t base : ℤ) → wholeSecond t ≡ wholeSecond base → Within 999999999 999999999 (t -ℤ base)
+-- two instants of one second are at most this far apart, in nanoseconds
+abbrev pub farthestApart : ℕ
+farthestApart = second - 1
+
+second-apart : (t base : ℤ) → wholeSecond t ≡ wholeSecond base → Within farthestApart farthestApart (t -ℤ base)
 second-apart t base e = omega (arith, ap over e, ap under e, bounds t .0, bounds t .1, bounds base .0, bounds base .1, minus-parts t base)
 
-near-second : (base : ℤ) (xs : List Sample) → All (wholeSecond base) xs → Near 999999999 999999999 base xs
+pub near-second : (base : ℤ) (xs : List Sample) → All (wholeSecond base) xs → Near farthestApart farthestApart base xs
 near-second base [] a = tt
 near-second base (x ∷ xs) a = (second-apart (x .instant) base (a .0), near-second base xs (a .1))
 
--- so the sum of their offsets is bounded
-pub offsets-small : (base : ℤ) (xs : List Sample) → All (wholeSecond base) xs → natAbs (offsets base xs) ≤ 1000000 * length xs
-offsets-small base xs a = go (one-sided (offsets base xs)) (within-parts (999999 * length xs) (999999 * length xs) (offsets base xs) (offsets-within 999999999 999999999 base xs (near-second base xs a)))
-  where
-    go : (over (offsets base xs) ≡ 0) ⊎ (under (offsets base xs) ≡ 0) → (over (offsets base xs) ≤ 999999 * length xs) × (under (offsets base xs) ≤ 999999 * length xs) → natAbs (offsets base xs) ≤ 1000000 * length xs
-    go (inl e) p = omega (arith, abs-parts (offsets base xs), p .1)
-    go (inr e) p = omega (arith, abs-parts (offsets base xs), p .0)
-
-spans-second : (s : ℤ) (xs : List Sample) → All s xs → Spans (s *ℤ pos second) (s *ℤ pos second +ℤ pos 999999999) xs
+spans-second : (s : ℤ) (xs : List Sample) → All s xs → Spans (s *ℤ pos second) (s *ℤ pos second +ℤ pos farthestApart) xs
 spans-second s [] a = tt
 spans-second s (x ∷ xs) a =
     let t = x .instant in
@@ -120,7 +124,7 @@ spans-second s (x ∷ xs) a =
     let q = under-times s second in
     let b = bounds t in (
       record { le = parts-le u t (omega arith) },
-      record { le = parts-le t (u +ℤ pos 999999999) (omega (arith, add-parts u (pos 999999999))) },
+      record { le = parts-le t (u +ℤ pos farthestApart) (omega (arith, add-parts u (pos farthestApart))) },
       spans-second s xs (a .1),
     )
 
@@ -129,9 +133,9 @@ mean-second : (s : ℤ) (xs : List Sample) → xs ≢ [] → All s xs → wholeS
 mean-second s xs n a =
     let u = s *ℤ pos second in
     let m = meanOf xs .instant in
-    let b = mean-between u (u +ℤ pos 999999999) xs n (spans-second s xs a) in
-    let l = le-parts m (u +ℤ pos 999999999) (b .1 .le) in
-    from-start u (ap (λ (z : ℤ). z *ℤ pos second) (whole-times s)) m (b .0 .le) (parts-lt m (u +ℤ pos second) (omega (arith, add-parts u (pos 999999999), add-parts u (pos second)))) ∙ whole-times s
+    let b = mean-between u (u +ℤ pos farthestApart) xs n (spans-second s xs a) in
+    let l = le-parts m (u +ℤ pos farthestApart) (b .1 .le) in
+    from-start u (ap (λ (z : ℤ). z *ℤ pos second) (whole-times s)) m (b .0 .le) (parts-lt m (u +ℤ pos second) (omega (arith, add-parts u (pos farthestApart), add-parts u (pos second)))) ∙ whole-times s
 
 -- the mean of each second that holds a sample lies in that second
 pub own-second : (s : ℤ) (S : List Sample) → bin s S ≢ [] → wholeSecond (meanOf (bin s S) .instant) ≡ s
@@ -160,30 +164,30 @@ means-rise S = rises (means S) (subst Rising (sym (own-seconds S)) (rising S))
 
 -- ---- check 4
 
--- each magnitude of the list is at most L
-abbrev pub Limited : ℕ → List ℤ → Type 0
-Limited L ts = (k : ℕ) → natAbs (getD ts k (pos 0)) ≤ L
+-- the limit's two sides
+abbrev earliest : ℤ
+earliest = negℤ (pos farthestInstant)
 
-limit-spans : (L : ℕ) (xs : List Sample) → Limited L (instants xs) → Spans (negℤ (pos L)) (pos L) xs
-limit-spans L [] h = tt
-limit-spans L (x ∷ xs) h =
+abbrev latest : ℤ
+latest = pos farthestInstant
+
+limit-spans : (xs : List Sample) → Limited (instants xs) → Spans earliest latest xs
+limit-spans [] h = tt
+limit-spans (x ∷ xs) h =
     let t = x .instant in
     let m = h 0 in
     let a = abs-parts t in (
-      record { le = parts-le (negℤ (pos L)) t (omega (arith, over-neg (pos L), under-neg (pos L))) },
-      record { le = parts-le t (pos L) (omega arith) },
-      limit-spans L xs (λ k. h (suc k)),
+      record { le = parts-le earliest t (omega arith) },
+      record { le = parts-le t latest (omega arith) },
+      limit-spans xs (λ k. h (suc k)),
     )
 
-spans-limit : (L : ℕ) (t : ℤ) → negℤ (pos L) ≤ℤ t → t ≤ℤ pos L → natAbs t ≤ L
-spans-limit L t h k =
-    let a = le-parts (negℤ (pos L)) t (h .le) in
-    let b = le-parts t (pos L) (k .le) in
-    go (one-sided t)
+spans-limit : (t : ℤ) → earliest ≤ℤ t → t ≤ℤ latest → natAbs t ≤ farthestInstant
+spans-limit t h k = go (one-sided t)
   where
-    go : (over t ≡ 0) ⊎ (under t ≡ 0) → natAbs t ≤ L
-    go (inl e) = omega (arith, abs-parts t, le-parts (negℤ (pos L)) t (h .le), over-neg (pos L), under-neg (pos L))
-    go (inr e) = omega (arith, abs-parts t, le-parts t (pos L) (k .le))
+    go : (over t ≡ 0) ⊎ (under t ≡ 0) → natAbs t ≤ farthestInstant
+    go (inl e) = omega (arith, abs-parts t, le-parts earliest t (h .le))
+    go (inr e) = omega (arith, abs-parts t, le-parts t latest (k .le))
 
 spans-bin : (a b s : ℤ) (S : List Sample) → Spans a b S → Spans a b (bin s S)
 unfolding bin
@@ -194,12 +198,12 @@ spans-bin a b s (x ∷ xs) h = go (eqZ (wholeSecond (x .instant)) s) (spans-bin 
     go true r = (h .0, h .1, r)
     go false r = r
 
--- a limit on the magnitudes of the samples' instants is one on the means': samples that pass check 4 have means that pass it
-pub limited-means : (L : ℕ) (S : List Sample) → Limited L (instants S) → Limited L (instants (means S))
+-- samples that pass check 4 have means that pass it
+pub limited-means : (S : List Sample) → Limited (instants S) → Limited (instants (means S))
 unfolding means
-limited-means L S h = go (seconds S) (λ s m. held s S m)
+limited-means S h = go (seconds S) (λ s m. held s S m)
   where
-    go : (l : List ℤ) → ((s : ℤ) → List·Memᴰ s l → bin s S ≢ []) → Limited L (instants (map (λ s. meanOf (bin s S)) l))
+    go : (l : List ℤ) → ((s : ℤ) → List·Memᴰ s l → bin s S ≢ []) → Limited (instants (map (λ s. meanOf (bin s S)) l))
     go [] f k = omega arith
-    go (s ∷ l) f zero = let b = mean-between (negℤ (pos L)) (pos L) (bin s S) (f s (List·Memᴰ·head refl)) (spans-bin (negℤ (pos L)) (pos L) s S (limit-spans L S h)) in spans-limit L (meanOf (bin s S) .instant) (b .0) (b .1)
+    go (s ∷ l) f zero = let b = mean-between earliest latest (bin s S) (f s (List·Memᴰ·head refl)) (spans-bin earliest latest s S (limit-spans S h)) in spans-limit (meanOf (bin s S) .instant) (b .0) (b .1)
     go (s ∷ l) f (suc k) = go l (λ t m. f t (List·Memᴰ·tail m)) k

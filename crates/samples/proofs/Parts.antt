@@ -9,8 +9,9 @@ use lib.IntN.{ℤ, pos, negsuc, negℤ, natAbs, subℕ, _+ℤ_, _-ℤ_, _*ℤ_}
 use lib.Signed.{ltZ, leZ, quotZ}
 use Rattle.checks.specs.Limits.{farthestInstant}
 use mir.Syntax.{w64}
-use mir.Val.{SFits, toZ, ofZ}
+use mir.Val.{SFits}
 use mir.ValLaws.{toZ-ofZ}
+use Rattle.samples.proofs.Gaps.{back}
 
 -- the part above zero
 abbrev pub over : ℤ → ℕ
@@ -77,12 +78,12 @@ add-parts (negsuc a) (negsuc b) = omega arith
 pub raised : (a n : ℕ) → suc a ≤ n → negsuc a +ℤ pos n ≡ pos (n - suc a)
 raised a n h = parts-eq (negsuc a +ℤ pos n) (pos (n - suc a)) (omega (arith, add-parts (negsuc a) (pos n)))
 
-pub over-neg : (a : ℤ) → over (negℤ a) ≡ under a
+over-neg : (a : ℤ) → over (negℤ a) ≡ under a
 over-neg (pos zero) = refl
 over-neg (pos (suc n)) = refl
 over-neg (negsuc n) = refl
 
-pub under-neg : (a : ℤ) → under (negℤ a) ≡ over a
+under-neg : (a : ℤ) → under (negℤ a) ≡ over a
 under-neg (pos zero) = refl
 under-neg (pos (suc n)) = refl
 under-neg (negsuc n) = refl
@@ -136,10 +137,6 @@ within-fits (negsuc a) h = record { sfits = omega (arith, h .1) }
 pub abs-parts : (a : ℤ) → natAbs a ≡ over a + under a
 abs-parts (pos a) = omega arith
 abs-parts (negsuc a) = omega arith
-
--- what the machine reads back from a number's bits; it is the number (`mir.ValLaws.toZ-ofZ`)
-abbrev pub back : ℤ → ℤ
-back z = toZ w64 (ofZ w64 z)
 
 -- an instant that passes check 4 fits
 pub limit-fits : (a : ℤ) → natAbs a ≤ farthestInstant → SFits w64 a

@@ -1,6 +1,6 @@
 -- The list of seconds by its places: after the seconds below a bound comes the least second of a sample at or after it. Assumes nothing.
 use mathlib.Core.Path.{_≡_, refl, sym, ap, _∙_, subst}
-use mathlib.Core.Logic.{_≢_, _⊎_, inl, inr}
+use mathlib.Core.Logic.{_⊎_, inl, inr}
 use mathlib.Core.Bool.{Bool, true, false, not}
 use mathlib.Core.List.{List, [], _∷_, map, List·Memᴰ, List·Memᴰ·head, List·Memᴰ·tail, List·Memᴰ·not-nil, List·Memᴰ·cases-cons, Memᴰ·cast}
 use Prim.Native.Nat.{ℕ, zero, suc, _+_, _≤_, _<_}
@@ -11,10 +11,10 @@ use lib.IntN.{ℤ, pos, _+ℤ_}
 use lib.Signed.{_<ℤ_, _≤ℤ_, clashℤ}
 use lib.ListN.{length, getD, length-map}
 use lib.Ieee.{Float, nan}
-use Rattle.samples.specs.Means.{Sample, wholeSecond, bin, seconds, recording, meanOf, means, instants, frequencies}
+use Rattle.samples.specs.Means.{Sample, wholeSecond, bin, seconds, recording, meanOf, means, instants, frequencies, Rising}
 use Rattle.samples.specs.Runs.{secondAt}
 use Rattle.samples.proofs.Parts.{lt-parts, parts-le, parts-lt, add-parts}
-use Rattle.samples.proofs.Seconds.{inserted, kept, only, under-at, Rising, rising, held}
+use Rattle.samples.proofs.Seconds.{inserted, kept, only, under-at, rising}
 use Rattle.samples.proofs.Recordings.{noSample, record-length, record-at}
 
 -- ---- the members of a list, by their places
@@ -95,13 +95,14 @@ split-next l r c h = record { before = λ k u. below k (eq-or-lt-of-le {n = k} {
     above k u v = record { le = parts-le (getD l c (pos 0) +ℤ pos 1) (getD l k (pos 0)) (omega (arith, lt-parts (getD l c (pos 0)) (getD l k (pos 0)) (rising-at l r c k u v .lt), add-parts (getD l c (pos 0)) (pos 1))) }
 
 module _ (ts : List ℤ) (fs : List Float) (e : length fs ≡ length ts) where
-  at-is : (k : ℕ) → k < length ts → wholeSecond (getD (recording ts fs) k noSample .instant) ≡ secondAt ts k
+  -- the second of sample k, by its place
+  pub at-is : (k : ℕ) → k < length ts → wholeSecond (getD (recording ts fs) k noSample .instant) ≡ secondAt ts k
   at-is k h = ap (λ (x : Sample). wholeSecond (x .instant)) (record-at ts fs e k h noSample)
 
   long : length (recording ts fs) ≡ length ts
   long = record-length ts fs e
 
-  -- the second of sample k, by its place
+  -- among the seconds it has a place
   second-place : (k : ℕ) → k < length ts → (j : ℕ) × (j < length (seconds (recording ts fs))) × (getD (seconds (recording ts fs)) j (pos 0) ≡ secondAt ts k)
   second-place k h = place-of (seconds (recording ts fs)) (secondAt ts k) (Memᴰ·cast (sym (at-is k h)) (has-second (recording ts fs) k (omega (arith, long))))
 
@@ -110,10 +111,6 @@ module _ (ts : List ℤ) (fs : List Float) (e : length fs ≡ length ts) where
   sample-place j h =
       let p = has-sample (recording ts fs) (getD (seconds (recording ts fs)) j (pos 0)) (member-at (seconds (recording ts fs)) j h) in
       (p .0, omega (arith, p .1, long), sym (at-is (p .0) (omega (arith, p .1, long))) ∙ p .2)
-
-  -- the second of a sample holds a sample
-  pub holds-sample : (k : ℕ) → k < length ts → bin (secondAt ts k) (recording ts fs) ≢ []
-  holds-sample k h = held (secondAt ts k) (recording ts fs) (Memᴰ·cast (sym (at-is k h)) (has-second (recording ts fs) k (omega (arith, long))))
 
   -- at the start no second is below the bound
   pub split-first : (bound : ℤ) → ((k : ℕ) → k < length ts → bound ≤ℤ secondAt ts k) → Split (seconds (recording ts fs)) bound 0

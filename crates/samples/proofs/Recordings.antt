@@ -7,7 +7,7 @@ use lib.IntN.{ℤ, pos}
 use lib.ListN.{length, getD, take, drop}
 use lib.Ieee.{Float, nan}
 use Rattle.common.specs.Numbers.{nought}
-use Rattle.samples.specs.Means.{Sample, recording, instants}
+use Rattle.samples.specs.Means.{Sample, recording, instants, frequencies}
 
 -- what `getD` gives past the end
 abbrev pub noSample : Sample
@@ -34,6 +34,14 @@ unfolding recording
 record-instants [] fs e = refl
 record-instants (t ∷ ts) [] e = absurd (omega (arith, e))
 record-instants (t ∷ ts) (f ∷ fs) e = ap {B = List ℤ} (λ (l : List ℤ). t ∷ l) (record-instants ts fs (omega (arith, e)))
+
+-- and its frequencies that of frequencies
+pub record-frequencies : (ts : List ℤ) (fs : List Float) → length fs ≡ length ts → frequencies (recording ts fs) ≡ fs
+unfolding recording
+record-frequencies [] [] e = refl
+record-frequencies [] (f ∷ fs) e = absurd (omega (arith, e))
+record-frequencies (t ∷ ts) [] e = refl
+record-frequencies (t ∷ ts) (f ∷ fs) e = ap {B = List Float} (λ (l : List Float). f ∷ l) (record-frequencies ts fs (omega (arith, e)))
 
 -- the first n samples, and the rest
 pub record-take : (n : ℕ) (ts : List ℤ) (fs : List Float) → recording (take n ts) (take n fs) ≡ take n (recording ts fs)

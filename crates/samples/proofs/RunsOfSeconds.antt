@@ -8,19 +8,21 @@ use native.Mathlib.Nat.{eq-or-lt-of-le}
 use native.Mathlib.Numerals.{add-one}
 use native.Mathlib.Omega.{arith}
 use lib.Dec.{T, ltb, ltb→lt, nltb→le}
-use lib.IntN.{ℤ, pos, natAbs, _+ℤ_}
+use lib.IntN.{ℤ, pos, _+ℤ_}
 use lib.Signed.{ltZ, _<ℤ_, _≤ℤ_, ≤ℤ-refl, ltZ-no}
 use lib.ListN.{length, getD, take, drop, take-append-drop, length-take, length-drop}
-use lib.Seq.{drop-drop, getD-take, getD-drop}
+use lib.Seq.{drop-drop, getD-take, getD-drop, length-take-le}
 use lib.Ieee.{Float}
 use Rattle.samples.specs.Means.{Sample, wholeSecond, eqZ, bin, seconds, recording}
-use Rattle.samples.specs.Sums.{Recorded}
+use Rattle.samples.specs.Sums.{Recorded, OneSecond}
 use Rattle.samples.specs.Runs.{secondAt, NeverFalls, Begins, Run}
 use Rattle.samples.proofs.Parts.{lt-apart, le-parts, lt-parts, parts-le, parts-lt, parts-eq, add-parts}
-use Rattle.samples.proofs.Starts.{eqZ→eq}
+use Rattle.samples.proofs.Starts.{eqZ→eq, eq→eqZ}
 use Rattle.samples.proofs.Seconds.{bin-append, rising}
-use Rattle.samples.proofs.OwnSeconds.{Limited}
+use Rattle.samples.proofs.Limits.{limited-take, limited-drop}
 use Rattle.samples.proofs.Recordings.{noSample, record-length, record-at, record-take, record-drop}
+use Rattle.samples.proofs.OwnSeconds.{All}
+use Rattle.samples.proofs.SumsOfSeconds.{all}
 use Rattle.samples.proofs.Places.{Split, split-first, split-next, none-left, next-is}
 
 -- seconds that never fall from one sample to the next never fall
@@ -45,22 +47,13 @@ bin-none s (x ∷ xs) h = go (eqZ (wholeSecond (x .instant)) s) (eqZ→eq (whole
     go true f r = absurd (h 0 (omega arith) (f tt))
     go false f r = r
 
-limited-take : (L n : ℕ) (l : List ℤ) → Limited L l → Limited L (take n l)
-limited-take L zero l h k = omega arith
-limited-take L (suc n) [] h k = omega arith
-limited-take L (suc n) (x ∷ l) h zero = h 0
-limited-take L (suc n) (x ∷ l) h (suc k) = limited-take L n l (λ j. h (suc j)) k
-
-limited-drop : (L n : ℕ) (l : List ℤ) → Limited L l → Limited L (drop n l)
-limited-drop L n l h k = subst (λ (z : ℤ). natAbs z ≤ L) (sym (getD-drop n l k (pos 0))) (h (n + k))
-
 -- a part of two slices that pass the checks
-pub recorded-part : (ts : List ℤ) (fs : List Float) (n m : ℕ) → Recorded ts fs → Recorded (take m (drop n ts)) (take m (drop n fs))
+recorded-part : (ts : List ℤ) (fs : List Float) (n m : ℕ) → Recorded ts fs → Recorded (take m (drop n ts)) (take m (drop n fs))
 recorded-part ts fs n m r =
     record {
       same = length-take m (drop n fs) ∙ ap (λ (k : ℕ). min m k) (length-drop n fs ∙ ap (λ (k : ℕ). k - n) (r .same) ∙ sym (length-drop n ts)) ∙ sym (length-take m (drop n ts));
       few = omega (arith, r .few, length-take m (drop n ts), length-drop n ts);
-      limited = limited-take 4000000000000000000 m (drop n ts) (limited-drop 4000000000000000000 n ts (r .limited));
+      limited = limited-take m (drop n ts) (limited-drop n ts (r .limited));
     }
 
 -- at most and not the same
@@ -107,7 +100,7 @@ module _ (ts : List ℤ) (fs : List Float) (e : length fs ≡ length ts) (n : Ne
       lt-apart (secondAt ts from) (secondAt ts (end + k)) (later-seconds (end + k) (omega arith) l .lt) (sym q ∙ ap (λ (x : Sample). wholeSecond (x .instant)) (getD-drop end (recording ts fs) k noSample ∙ record-at ts fs e (end + k) l noSample)))
 
   -- the run is all of its second
-  pub run-bin : bin (secondAt ts from) (recording (take (end - from) (drop from ts)) (take (end - from) (drop from fs))) ≡ bin (secondAt ts from) (recording ts fs)
+  run-bin : bin (secondAt ts from) (recording (take (end - from) (drop from ts)) (take (end - from) (drop from fs))) ≡ bin (secondAt ts from) (recording ts fs)
   run-bin =
       let S = recording ts fs in
       let m = end - from in
@@ -124,6 +117,41 @@ module _ (ts : List ℤ) (fs : List Float) (e : length fs ≡ length ts) (n : Ne
       ∙ ap (λ (l : List Sample). l ++ bin (secondAt ts from) (drop from S)) (sym before-none)
       ∙ sym (bin-append (secondAt ts from) (take from S) (drop from S))
       ∙ ap (bin (secondAt ts from)) (take-append-drop from S)
+
+-- samples that are all of one second are its bin
+bin-all : (s : ℤ) (S : List Sample) → All s S → bin s S ≡ S
+unfolding bin
+bin-all s [] a = refl
+bin-all s (x ∷ xs) a = go (eqZ (wholeSecond (x .instant)) s) (eq→eqZ (wholeSecond (x .instant)) s (a .0)) (bin-all s xs (a .1))
+  where
+    go : (v : Bool) → T v → bin s xs ≡ xs → cond v (x ∷ bin s xs) (bin s xs) ≡ (x ∷ xs)
+    go true h e = ap {B = List Sample} (λ (l : List Sample). x ∷ l) e
+    go false h e = absurd h
+
+module _ (ts : List ℤ) (fs : List Float) (recorded : Recorded ts fs) (n : NeverFalls ts) (from end : ℕ) (b : Begins ts from) (r : Run ts from end) where
+  -- the run's second, by its places in the run
+  run-second : (k : ℕ) → k < end - from → secondAt (take (end - from) (drop from ts)) k ≡ secondAt ts from
+  run-second k h = ap wholeSecond (getD-take (end - from) (drop from ts) k (pos 0) h ∙ getD-drop from ts k (pos 0)) ∙ r .same (from + k) (omega arith) (omega arith)
+
+  run-length : length (take (end - from) (drop from ts)) ≡ end - from
+  run-length = length-take-le (end - from) (drop from ts) (omega (arith, length-drop from ts, r .inside))
+
+  -- its samples are of one second
+  pub run-one : OneSecond (take (end - from) (drop from ts)) (take (end - from) (drop from fs))
+  run-one =
+      record {
+        recorded = recorded-part ts fs from (end - from) recorded;
+        some = omega (arith, run-length, r .later);
+        same = λ k h. run-second k (omega (arith, run-length)) ∙ sym (run-second 0 (omega (arith, r .later)));
+      }
+
+  -- and they are all of that second
+  pub run-is-bin : recording (take (end - from) (drop from ts)) (take (end - from) (drop from fs)) ≡ bin (secondAt ts from) (recording ts fs)
+  run-is-bin =
+      let us = take (end - from) (drop from ts) in
+      let gs = take (end - from) (drop from fs) in
+      sym (bin-all (secondAt ts from) (recording us gs) (subst (λ (z : ℤ). All z (recording us gs)) (run-second 0 (omega (arith, r .later))) (all us gs run-one)))
+      ∙ run-bin ts fs (recorded .same) n from end b r
 
 -- ---- the next run's second stands next among the seconds
 

@@ -9,7 +9,7 @@ use lib.Dec.{T}
 use lib.IntN.{ℤ}
 use lib.Signed.{ltZ, _<ℤ_, ltZ-yes, ltZ-no, <ℤ-irrefl}
 use lib.ListN.{length, length-map}
-use Rattle.samples.specs.Means.{Sample, wholeSecond, eqZ, bin, Alike, insert, seconds, meanOf, means}
+use Rattle.samples.specs.Means.{Sample, wholeSecond, eqZ, bin, insert, seconds, meanOf, means, Alike, Under, Rising}
 use Rattle.samples.proofs.Parts.{le-parts, lt-parts, parts-lt, parts-eq}
 use Rattle.samples.proofs.Starts.{eqZ→eq, eqZ-refl}
 
@@ -66,16 +66,6 @@ only s x (t ∷ ts) m = go (ltZ s t) (ltZ t s) (only s x ts) m
     go false false r m = inr m
 
 -- ---- lists that rise strictly
-
--- s is below each of the list
-abbrev pub Under : ℤ → List ℤ → Type 0
-Under s [] = Unit {0}
-Under s (t ∷ ts) = (s <ℤ t) × Under s ts
-
--- each number of the list is below all after it
-abbrev pub Rising : List ℤ → Type 0
-Rising [] = Unit {0}
-Rising (s ∷ ts) = Under s ts × Rising ts
 
 under-trans : (s t : ℤ) (l : List ℤ) → s <ℤ t → Under t l → Under s l
 under-trans s t [] h u = tt
@@ -211,9 +201,8 @@ pub same-means : (S S′ : List Sample) → Alike S S′ → means S ≡ means S
 unfolding means
 same-means S S′ a = ap (λ (l : List ℤ). map (λ s. meanOf (bin s S)) l) (same-seconds S S′ a) ∙ ap (λ (f : ℤ → Sample). map f (seconds S′)) (fun-ext (λ s. ap meanOf (a s)))
 
--- ---- recordings that are alike and not the same
+-- ---- the samples of a second in two parts of a recording
 
--- the samples of a second in two parts of a recording
 pub bin-append : (s : ℤ) (S R : List Sample) → bin s (S ++ R) ≡ bin s S ++ bin s R
 unfolding bin
 bin-append s [] R = refl
@@ -222,17 +211,3 @@ bin-append s (x ∷ xs) R = go (eqZ (wholeSecond (x .instant)) s) (bin-append s 
     go : (v : Bool) → bin s (xs ++ R) ≡ bin s xs ++ bin s R → _≡_ {A = List Sample} (cond v (x ∷ bin s (xs ++ R)) (bin s (xs ++ R))) (cond v (x ∷ bin s xs) (bin s xs) ++ bin s R)
     go true e = ap {B = List Sample} (λ r. x ∷ r) e
     go false e = e
-
-swap-first : (x y : Sample) (S : List Sample) → wholeSecond (x .instant) ≢ wholeSecond (y .instant) → Alike (x ∷ y ∷ S) (y ∷ x ∷ S)
-unfolding bin
-swap-first x y S n s = go (eqZ (wholeSecond (x .instant)) s) (eqZ (wholeSecond (y .instant)) s) (λ h k. n (eqZ→eq (wholeSecond (x .instant)) s h ∙ sym (eqZ→eq (wholeSecond (y .instant)) s k)))
-  where
-    go : (v w : Bool) → (T v → T w → ⊥) → _≡_ {A = List Sample} (cond v (x ∷ cond w (y ∷ bin s S) (bin s S)) (cond w (y ∷ bin s S) (bin s S))) (cond w (y ∷ cond v (x ∷ bin s S) (bin s S)) (cond v (x ∷ bin s S) (bin s S)))
-    go true true f = absurd (f tt tt)
-    go true false f = refl
-    go false true f = refl
-    go false false f = refl
-
--- neighbours of two different seconds may change places, anywhere
-pub swap : (P : List Sample) (x y : Sample) (S : List Sample) → wholeSecond (x .instant) ≢ wholeSecond (y .instant) → Alike (P ++ x ∷ y ∷ S) (P ++ y ∷ x ∷ S)
-swap P x y S n s = bin-append s P (x ∷ y ∷ S) ∙ ap (λ (b : List Sample). bin s P ++ b) (swap-first x y S n s) ∙ sym (bin-append s P (y ∷ x ∷ S))

@@ -12,7 +12,7 @@ use Rattle.common.specs.Lists.{listOf}
 use Rattle.common.specs.Search.{betterOf, firstBest}
 use Rattle.common.proofs.Search.{search-end}
 use Rattle.samples.specs.declared.approach.LeastSlope.{LeastSlope}
-use Rattle.samples.specs.Approach.{gapAt, sloped, steeper, flat, leastSlope}
+use Rattle.samples.specs.Approach.{gapAt, sloped, steeper, noSlopeYet, leastSlope}
 
 -- ---- the three tests: no gap, under the floor, not below the best
 
@@ -80,11 +80,11 @@ module _ (floor : Float) (ts : List ℤ) (fs : List Float) where
   rest i best = firstBest (steeper floor ts) best (listOf (sloped ts fs) (length ts - 1 - i) i)
 
   -- the whole search is that from sample 1 on
-  pub rest-start : rest 1 flat ≡ leastSlope floor ts fs
+  pub rest-start : rest 1 noSlopeYet ≡ leastSlope floor ts fs
   rest-start =
       let e : length ts - 1 - 1 ≡ length ts - 2 = omega arith in
-      ap (λ (k : ℕ). firstBest (steeper floor ts) flat (listOf (sloped ts fs) k 1)) e
+      ap (λ (k : ℕ). firstBest (steeper floor ts) noSlopeYet (listOf (sloped ts fs) k 1)) e
 
   -- under three samples there is none
-  pub short : length ts < 3 → flat ≡ leastSlope floor ts fs
-  short h = sym (search-end (steeper floor ts) (sloped ts fs) (length ts - 1) 1 flat (omega arith)) ∙ rest-start
+  pub short : length ts < 3 → noSlopeYet ≡ leastSlope floor ts fs
+  short h = sym (search-end (steeper floor ts) (sloped ts fs) (length ts - 1) 1 noSlopeYet (omega arith)) ∙ rest-start

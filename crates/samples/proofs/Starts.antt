@@ -10,9 +10,11 @@ use mir.Syntax.{w64}
 use mir.Val.{SFits}
 use mir.ValLaws.{toZ-ofZ}
 use Rattle.checks.specs.Limits.{farthestInstant}
-use Rattle.samples.specs.Means.{second, wholeSecond, eqZ}
-use Rattle.samples.specs.Sums.{startOf, Start}
-use Rattle.samples.proofs.Parts.{over, under, le-parts, parts-le, lt-parts, parts-lt, parts-eq, add-parts, over-times, under-times, abs-parts, within-fits, back}
+use Rattle.common.specs.Time.{second}
+use Rattle.samples.specs.Means.{wholeSecond, eqZ}
+use Rattle.samples.specs.Sums.{secondStart, StartsSecond}
+use Rattle.samples.proofs.Gaps.{back}
+use Rattle.samples.proofs.Parts.{over, under, le-parts, parts-le, lt-parts, parts-lt, parts-eq, add-parts, over-times, under-times, abs-parts, within-fits}
 
 -- ---- tests
 
@@ -64,10 +66,10 @@ whole-times s =
     let z = s *ℤ pos second in
     parts-eq (wholeSecond z) s (omega (arith, bounds z .0, bounds z .1, over-times s second, under-times s second))
 
-pub starts : (t : ℤ) → startOf (startOf t) ≡ startOf t
+pub starts : (t : ℤ) → secondStart (secondStart t) ≡ secondStart t
 starts t = ap (λ (z : ℤ). z *ℤ pos second) (whole-times (wholeSecond t))
 
-module _ (start : ℤ) (whole : startOf start ≡ start) where
+module _ (start : ℤ) (whole : secondStart start ≡ start) where
   start-parts : (over start ≡ over (wholeSecond start) * second) × (under start ≡ under (wholeSecond start) * second)
   start-parts = (ap over (sym whole) ∙ over-times (wholeSecond start) second, ap under (sym whole) ∙ under-times (wholeSecond start) second)
 
@@ -85,23 +87,23 @@ module _ (start : ℤ) (whole : startOf start ≡ start) where
 
 -- ---- the start of an instant that passes check 4
 
-start-small : (t : ℤ) → natAbs t ≤ farthestInstant → natAbs (startOf t) ≤ farthestInstant + second
+start-small : (t : ℤ) → natAbs t ≤ farthestInstant → natAbs (secondStart t) ≤ farthestInstant + second
 start-small (pos a) h = omega arith
-start-small (negsuc a) h = omega (arith, abs-parts (startOf (negsuc a)), over-times (wholeSecond (negsuc a)) second, under-times (wholeSecond (negsuc a)) second)
+start-small (negsuc a) h = omega (arith, abs-parts (secondStart (negsuc a)), over-times (wholeSecond (negsuc a)) second, under-times (wholeSecond (negsuc a)) second)
 
-pub start-at : (t : ℤ) → natAbs t ≤ farthestInstant → Start (startOf t)
+pub start-at : (t : ℤ) → natAbs t ≤ farthestInstant → StartsSecond (secondStart t)
 start-at t h = record { whole = starts t; limited = start-small t h }
 
-pub start-fits : (start : ℤ) → Start start → SFits w64 start
+pub start-fits : (start : ℤ) → StartsSecond start → SFits w64 start
 start-fits start s = within-fits start (omega (arith, s .limited, abs-parts start))
 
 -- the next second's start
-pub next-fits : (start : ℤ) → Start start → SFits w64 (start +ℤ pos second)
+pub next-fits : (start : ℤ) → StartsSecond start → SFits w64 (start +ℤ pos second)
 next-fits start s = within-fits (start +ℤ pos second) (omega (arith, s .limited, abs-parts start, add-parts start (pos second)))
 
 -- the start that the machine reads back
-pub start-is : (t r : ℤ) → SFits w64 t → natAbs t ≤ farthestInstant → r ≡ startOf (back t) → back r ≡ startOf t
-start-is t r f h e = ap back (e ∙ ap startOf (toZ-ofZ w64 t f)) ∙ toZ-ofZ w64 (startOf t) (start-fits (startOf t) (start-at t h))
+pub start-is : (t r : ℤ) → SFits w64 t → natAbs t ≤ farthestInstant → r ≡ secondStart (back t) → back r ≡ secondStart t
+start-is t r f h e = ap back (e ∙ ap secondStart (toZ-ofZ w64 t f)) ∙ toZ-ofZ w64 (secondStart t) (start-fits (secondStart t) (start-at t h))
 
-pub second-is : (t r : ℤ) → SFits w64 t → natAbs t ≤ farthestInstant → r ≡ startOf (back t) → wholeSecond (back r) ≡ wholeSecond t
+pub second-is : (t r : ℤ) → SFits w64 t → natAbs t ≤ farthestInstant → r ≡ secondStart (back t) → wholeSecond (back r) ≡ wholeSecond t
 second-is t r f h e = ap wholeSecond (start-is t r f h e) ∙ whole-times (wholeSecond t)

@@ -1,130 +1,109 @@
--- The running sums are those of the samples added so far: one sample more at the end adds its offset and its frequency. Samples of one second keep the sums in their range. Assumes nothing.
+-- The sums over samples of one second: one sample more adds its offset, and the offsets of some samples, as the offset of their mean, stay in their range. Assumes nothing.
 use mathlib.Core.Path.{_≡_, refl, sym, ap, _∙_, subst}
-use mathlib.Core.Logic.{_≢_, _⊎_, inl, inr}
-use mathlib.Core.Bool.{Bool, true, false, cond}
-use mathlib.Core.List.{List, [], _∷_, _++_, append-nil}
-use Prim.Native.Nat.{ℕ, zero, suc, _+_, _*_, _≤_, _<_}
+use mathlib.Core.List.{List, [], _∷_, _++_}
+use Prim.Native.Nat.{ℕ, suc, _+_, _/_, _*_, _≤_, _<_}
 use native.Mathlib.Numerals.{add-one}
 use native.Mathlib.Omega.{arith}
-use borrow.Author.Tests.{ne-eqb}
-use lib.IntN.{ℤ, pos, natAbs, _+ℤ_, _-ℤ_, +ℤ-idl, +ℤ-idr, +ℤ-assoc, +ℤ-invr}
+use lib.IntN.{ℤ, pos, _+ℤ_, _-ℤ_, _*ℤ_, +ℤ-idl, +ℤ-idr, +ℤ-assoc}
 use lib.Signed.{quotZ}
-use lib.ListN.{length, getD, take, length-append}
-use lib.Seq.{take-suc}
-use lib.Ieee.{Float, binary64, add}
-use Rattle.checks.specs.Limits.{mostSamples, farthestInstant}
+use lib.ListN.{length, getD, take}
+use lib.Seq.{take-suc, take-all, length-take-le}
+use lib.Ieee.{Float}
+use mir.Syntax.{w64}
+use mir.Val.{SFits}
 use Rattle.common.specs.Numbers.{nought}
-use Rattle.samples.specs.Means.{Sample, microsecond, wholeSecond, eqZ, bin, offsets, frequencySum, meanInstant, meanFrequency, meanOf, instants}
-use Rattle.samples.specs.Sums.{sumsOf, moreOf, added, addedIn, meanFrom, asMean, Room, Held}
-use Rattle.samples.proofs.Parts.{over, under, Within, abs-parts, one-sided}
-use Rattle.samples.proofs.Seconds.{bin-append}
-use Rattle.samples.proofs.OwnSeconds.{All, all-in-bin, Limited, offsets-small, second-apart}
+use Rattle.common.specs.Rounded.{_⊘_}
+use Rattle.common.specs.Sums.{sumFrom}
+use Rattle.common.specs.Time.{microsecond}
+use Rattle.float.specs.Conversions.{nearestOf}
+use Rattle.samples.specs.Means.{Sample, wholeSecond, recording, frequencies, offsetSum, meanInstant, meanFrequency, meanOf}
+use Rattle.samples.specs.Sums.{OneSecond, asMean}
+use Rattle.samples.proofs.Parts.{Within, within-parts, within-fits, over-times, under-times, add-parts, abs-parts}
+use Rattle.samples.proofs.Recordings.{noSample, record-length, record-at}
+use Rattle.samples.proofs.OwnSeconds.{All, all-take, farthestApart, near-second, offsets-within, mean-within}
+use Rattle.samples.proofs.Places.{at-is}
 
-offsets-snoc : (base : ℤ) (xs : List Sample) (x : Sample) → offsets base (xs ++ x ∷ []) ≡ offsets base xs +ℤ quotZ (x .instant -ℤ base) (pos microsecond)
-unfolding offsets
+-- ---- one sample more
+
+offsets-snoc : (base : ℤ) (xs : List Sample) (x : Sample) → offsetSum base (xs ++ x ∷ []) ≡ offsetSum base xs +ℤ quotZ (x .instant -ℤ base) (pos microsecond)
+unfolding offsetSum
 offsets-snoc base [] x = +ℤ-idr (quotZ (x .instant -ℤ base) (pos microsecond)) ∙ sym (+ℤ-idl (quotZ (x .instant -ℤ base) (pos microsecond)))
-offsets-snoc base (y ∷ ys) x = ap (λ (z : ℤ). quotZ (y .instant -ℤ base) (pos microsecond) +ℤ z) (offsets-snoc base ys x) ∙ sym (+ℤ-assoc (quotZ (y .instant -ℤ base) (pos microsecond)) (offsets base ys) (quotZ (x .instant -ℤ base) (pos microsecond)))
+offsets-snoc base (y ∷ ys) x = ap (λ (z : ℤ). quotZ (y .instant -ℤ base) (pos microsecond) +ℤ z) (offsets-snoc base ys x) ∙ sym (+ℤ-assoc (quotZ (y .instant -ℤ base) (pos microsecond)) (offsetSum base ys) (quotZ (x .instant -ℤ base) (pos microsecond)))
 
-frequencies-snoc : (a : Float) (xs : List Sample) (x : Sample) → frequencySum a (xs ++ x ∷ []) ≡ add binary64 (frequencySum a xs) (x .frequency)
-unfolding frequencySum
-frequencies-snoc a [] x = refl
-frequencies-snoc a (y ∷ ys) x = frequencies-snoc (add binary64 a (y .frequency)) ys x
+-- ---- samples of one second
 
--- the first sample's own offset
-no-offset : (t : ℤ) → quotZ (t -ℤ t) (pos microsecond) +ℤ pos 0 ≡ pos 0
-no-offset t = ap (λ (z : ℤ). quotZ z (pos microsecond) +ℤ pos 0) (+ℤ-invr t)
+all-places : (s : ℤ) (S : List Sample) → ((k : ℕ) → k < length S → wholeSecond (getD S k noSample .instant) ≡ s) → All s S
+all-places s [] f = tt
+all-places s (x ∷ xs) f = (f 0 (omega arith), all-places s xs (λ k h. f (suc k) (omega arith)))
 
--- one sample more
-pub sums-snoc : (xs : List Sample) (x : Sample) → added (sumsOf xs) (x .instant) (x .frequency) ≡ sumsOf (xs ++ x ∷ [])
-unfolding sumsOf offsets frequencySum
-sums-snoc [] x = ap (λ (z : ℤ). record { count = 1; base = x .instant; micros = z; hertz = add binary64 nought (x .frequency) }) (sym (no-offset (x .instant)))
-sums-snoc (y ∷ ys) x =
-    let n : suc (length ys) + 1 ≡ suc (length (ys ++ x ∷ [])) = omega (arith, length-append ys (x ∷ [])) in
-    let o = offsets-snoc (y .instant) (y ∷ ys) x in
-    let f = frequencies-snoc nought (y ∷ ys) x in
-    ap (λ (v : Bool). moreOf v (sumsOf (y ∷ ys)) (x .instant) (x .frequency)) (ne-eqb (suc (length ys)) 0 (λ e. omega arith))
-    ∙ ap (λ (k : ℕ). record { count = k; base = y .instant; micros = offsets (y .instant) (y ∷ ys) +ℤ quotZ (x .instant -ℤ y .instant) (pos microsecond); hertz = add binary64 (frequencySum nought (y ∷ ys)) (x .frequency) }) n
-    ∙ ap (λ (z : ℤ). record { count = suc (length (ys ++ x ∷ [])); base = y .instant; micros = z; hertz = add binary64 (frequencySum nought (y ∷ ys)) (x .frequency) }) (sym o)
-    ∙ ap (λ (h : Float). record { count = suc (length (ys ++ x ∷ [])); base = y .instant; micros = offsets (y .instant) (y ∷ ys ++ x ∷ []); hertz = h }) (sym f)
+-- the mean of some samples, whose first gives the base
+mean-first : (S : List Sample) → 0 < length S → meanOf S ≡ record { instant = meanInstant (getD S 0 noSample .instant) S; frequency = meanFrequency S }
+unfolding meanOf
+mean-first [] h = absurd (omega arith)
+mean-first (x ∷ xs) h = refl
 
--- ---- the range
+module _ (ts : List ℤ) (fs : List Float) (o : OneSecond ts fs) where
+  -- the first sample's instant
+  abbrev pub base : ℤ
+  base = getD ts 0 (pos 0)
 
-held-room : (s : ℤ) (xs : List Sample) → All s xs → natAbs (sumsOf xs .micros) ≤ 1000000 * sumsOf xs .count
-unfolding sumsOf
-held-room s [] a = omega arith
-held-room s (x ∷ xs) a = offsets-small (x .instant) (x ∷ xs) (subst (λ (r : ℤ). All r (x ∷ xs)) (sym (a .0)) a)
+  pub long : length (recording ts fs) ≡ length ts
+  long = record-length ts fs (o .recorded .same)
 
-count-is : (xs : List Sample) → sumsOf xs .count ≡ length xs
-unfolding sumsOf
-count-is [] = refl
-count-is (x ∷ xs) = refl
+  -- all lie in its second
+  pub all : All (wholeSecond base) (recording ts fs)
+  all = all-places (wholeSecond base) (recording ts fs) (λ k h. at-is ts fs (o .recorded .same) k (omega (arith, long)) ∙ o .same k (omega (arith, long)))
 
--- room for one sample more of the second
-pub room : (s : ℤ) (xs : List Sample) (t : ℤ) → All s xs → length xs < mostSamples → wholeSecond t ≡ s → Room (sumsOf xs) t
-unfolding sumsOf
-room s [] t a h e = record { few = omega arith; small = omega arith; near = λ n. absurd (omega arith) }
-room s (x ∷ xs) t a h e =
-    record {
-      few = h;
-      small = held-room s (x ∷ xs) a;
-      near = λ n. apart (second-apart t (x .instant) (e ∙ sym (a .0))) (one-sided (t -ℤ x .instant));
-    }
-  where
-    apart : Within 999999999 999999999 (t -ℤ x .instant) → (over (t -ℤ x .instant) ≡ 0) ⊎ (under (t -ℤ x .instant) ≡ 0) → natAbs (t -ℤ x .instant) < 1000000000
-    apart w (inl z) = omega (arith, abs-parts (t -ℤ x .instant), w .1)
-    apart w (inr z) = omega (arith, abs-parts (t -ℤ x .instant), w .0)
+  -- one sample more
+  pub offsets-more : (k : ℕ) → k < length ts → offsetSum base (take k (recording ts fs)) +ℤ quotZ (getD ts k (pos 0) -ℤ base) (pos microsecond) ≡ offsetSum base (take (k + 1) (recording ts fs))
+  offsets-more k h =
+      let S = recording ts fs in
+      let x = getD S k noSample in
+      ap (λ (y : Sample). offsetSum base (take k S) +ℤ quotZ (y .instant -ℤ base) (pos microsecond)) (sym (record-at ts fs (o .recorded .same) k h noSample))
+      ∙ sym (offsets-snoc base (take k S) x)
+      ∙ ap (offsetSum base) (sym (take-suc S k noSample (omega (arith, long))))
+      ∙ ap (λ (n : ℕ). offsetSum base (take n S)) (sym (add-one k))
 
--- the sums of some samples of one second have a mean
-holds-mean : (s : ℤ) (xs : List Sample) → All s xs → xs ≢ [] → length xs ≤ mostSamples → Limited farthestInstant (instants xs) → Held (sumsOf xs)
-unfolding sumsOf
-holds-mean s [] a n h l = absurd (n refl)
-holds-mean s (x ∷ xs) a n h l = record { some = omega arith; few = h; small = held-room s (x ∷ xs) a; limited = l 0 }
+  -- the offsets of the first k
+  pub offsets-fit : (k : ℕ) → k ≤ length ts → SFits w64 (offsetSum base (take k (recording ts fs)))
+  offsets-fit k h =
+      let S = take k (recording ts fs) in
+      let few = length-take-le k (recording ts fs) (omega (arith, long)) in
+      let w = offsets-within farthestApart farthestApart base S (near-second base S (all-take (wholeSecond base) k (recording ts fs) all)) in
+      let p = within-parts (farthestApart / microsecond * length S) (farthestApart / microsecond * length S) (offsetSum base S) w in
+      within-fits (offsetSum base S) (omega (arith, few, o .recorded .few, p .0, p .1))
 
--- which is the mean of the samples
-pub mean-from : (xs : List Sample) → xs ≢ [] → meanFrom (sumsOf xs) ≡ asMean (meanOf xs)
-unfolding sumsOf meanOf meanInstant meanFrequency
-mean-from [] n = absurd (n refl)
-mean-from (x ∷ xs) n = refl
+  -- and of all
+  pub sum-fits : SFits w64 (offsetSum base (recording ts fs))
+  sum-fits = subst (λ (S : List Sample). SFits w64 (offsetSum base S)) (take-all (length ts) (recording ts fs) (omega (arith, long))) (offsets-fit (length ts) (omega arith))
 
--- ---- a second's samples among the first k, and among one more
+  -- the mean offset, in whole microseconds
+  abbrev pub share : ℤ
+  share = quotZ (offsetSum base (recording ts fs)) (pos (length ts))
 
-bin-one : (s : ℤ) (x : Sample) → bin s (x ∷ []) ≡ cond (eqZ (wholeSecond (x .instant)) s) (x ∷ []) []
-unfolding bin
-bin-one s x = refl
+  share-within : Within farthestApart farthestApart (share *ℤ pos microsecond)
+  share-within =
+      let S = recording ts fs in
+      subst (λ (n : ℕ). Within farthestApart farthestApart (quotZ (offsetSum base S) (pos n) *ℤ pos microsecond)) long (mean-within farthestApart farthestApart base S (near-second base S all))
 
-pub bin-more : (s : ℤ) (S : List Sample) (k : ℕ) (d : Sample) → k < length S → bin s (take (k + 1) S) ≡ bin s (take k S) ++ cond (eqZ (wholeSecond (getD S k d .instant)) s) (getD S k d ∷ []) []
-bin-more s S k d h =
-    ap (λ (n : ℕ). bin s (take n S)) (add-one k)
-    ∙ ap (bin s) (take-suc S k d h)
-    ∙ bin-append s (take k S) (getD S k d ∷ [])
-    ∙ ap (λ (l : List Sample). bin s (take k S) ++ l) (bin-one s (getD S k d))
+  pub offset-fits : SFits w64 (share *ℤ pos microsecond)
+  offset-fits = within-fits (share *ℤ pos microsecond) (omega (arith, share-within .0, share-within .1))
 
-pub sums-more : (s : ℤ) (S : List Sample) (k : ℕ) (d : Sample) → k < length S → addedIn s (sumsOf (bin s (take k S))) (getD S k d .instant) (getD S k d .frequency) ≡ sumsOf (bin s (take (k + 1) S))
-sums-more s S k d h = go (eqZ (wholeSecond (getD S k d .instant)) s) ∙ ap sumsOf (sym (bin-more s S k d h))
-  where
-    go : (v : Bool) → cond v (added (sumsOf (bin s (take k S))) (getD S k d .instant) (getD S k d .frequency)) (sumsOf (bin s (take k S))) ≡ sumsOf (bin s (take k S) ++ cond v (getD S k d ∷ []) [])
-    go true = sums-snoc (bin s (take k S)) (getD S k d)
-    go false = ap sumsOf (sym (append-nil (bin s (take k S))))
+  pub share-fits : SFits w64 share
+  share-fits =
+      let p = within-parts farthestApart farthestApart (share *ℤ pos microsecond) share-within in
+      within-fits share (omega (arith, p .0, p .1, over-times share microsecond, under-times share microsecond))
 
-pub bin-short : (s : ℤ) (S : List Sample) → length (bin s S) ≤ length S
-unfolding bin
-bin-short s [] = omega arith
-bin-short s (x ∷ xs) = go (eqZ (wholeSecond (x .instant)) s) (bin-short s xs)
-  where
-    go : (v : Bool) → length (bin s xs) ≤ length xs → length (cond v (x ∷ bin s xs) (bin s xs)) ≤ suc (length xs)
-    go true r = omega arith
-    go false r = omega arith
+  pub mean-fits : SFits w64 (base +ℤ share *ℤ pos microsecond)
+  mean-fits =
+      let p = within-parts farthestApart farthestApart (share *ℤ pos microsecond) share-within in
+      within-fits (base +ℤ share *ℤ pos microsecond) (omega (arith, p .0, p .1, o .recorded .limited 0, abs-parts base, add-parts base (share *ℤ pos microsecond)))
 
-limited-bin : (L : ℕ) (s : ℤ) (S : List Sample) → Limited L (instants S) → Limited L (instants (bin s S))
-unfolding bin
-limited-bin L s [] h k = omega arith
-limited-bin L s (x ∷ xs) h k = go (eqZ (wholeSecond (x .instant)) s) k (limited-bin L s xs (λ j. h (suc j)))
-  where
-    go : (v : Bool) (k : ℕ) → Limited L (instants (bin s xs)) → natAbs (getD (instants (cond v (x ∷ bin s xs) (bin s xs))) k (pos 0)) ≤ L
-    go true zero r = h 0
-    go true (suc k) r = r k
-    go false k r = r k
-
--- the sums of a second that holds a sample, of a recording that passes check 4
-pub held-bin : (s : ℤ) (S : List Sample) → bin s S ≢ [] → length S ≤ mostSamples → Limited farthestInstant (instants S) → Held (sumsOf (bin s S))
-held-bin s S n h l = holds-mean s (bin s S) (all-in-bin s S) n (omega (arith, bin-short s S)) (limited-bin farthestInstant s S l)
+  -- the mean by the sums
+  pub mean-is : asMean (record { instant = base +ℤ share *ℤ pos microsecond; frequency = sumFrom nought (frequencies (recording ts fs)) ⊘ nearestOf (pos (length ts)) }) ≡ asMean (meanOf (recording ts fs))
+  unfolding meanInstant meanFrequency
+  mean-is =
+      let S = recording ts fs in
+      sym (ap asMean (mean-first S (omega (arith, long, o .some)))
+      ∙ ap (λ (x : Sample). asMean (record { instant = meanInstant (x .instant) S; frequency = meanFrequency S })) (record-at ts fs (o .recorded .same) 0 (o .some) noSample)
+      ∙ ap (λ (n : ℕ). asMean (record { instant = base +ℤ quotZ (offsetSum base S) (pos n) *ℤ pos microsecond; frequency = sumFrom nought (frequencies S) ⊘ nearestOf (pos n) })) long)

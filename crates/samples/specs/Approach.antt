@@ -1,18 +1,20 @@
 -- `estimate_measured_pca_time` and the steepest slope: the first least slope below zero.
-use Prim.Native.Nat.{ℕ, _+_, _-_}
-use mathlib.Core.Bool.{Bool, true, false, not, _&&_, cond}
+use Prim.Native.Nat.{ℕ, _+_, _-_, _<_}
+use mathlib.Core.Bool.{Bool, true, not, _&&_, cond}
 use mathlib.Core.List.{List}
+use lib.Dec.{T}
 use lib.IntN.{ℤ, pos, _-ℤ_}
 use lib.Signed.{quotZ}
 use lib.ListN.{length, getD}
-use lib.Ieee.{Float, nan, inf, fin, binary64, sub, div, lt}
+use lib.Ieee.{Float, nan, inf, fin, lt, le}
 use Rattle.common.specs.Rounded.{_⊖_, _⊘_}
 use Rattle.float.specs.Conversions.{nearestOf}
 use Rattle.common.specs.Lists.{listOf}
 use Rattle.common.specs.Search.{firstBest}
 use Rattle.common.specs.Outcome.{Outcome, refused, answered, outcome, unlessRefused}
 use Rattle.checks.specs.Entries.{firstFailing, samplesChecks}
-use Rattle.common.specs.Numbers.{nought}
+use Rattle.common.specs.Numbers.{nought, thousand}
+use Rattle.common.specs.Time.{millisecond}
 use Rattle.samples.specs.declared.approach.Approach.{Approach}
 use Rattle.samples.specs.declared.approach.Approach.the-variants.{At}
 use Rattle.samples.specs.declared.approach.Approach.the-variants.{Refused as NoApproach}
@@ -21,25 +23,13 @@ use Rattle.samples.specs.declared.approach.Slope.{Slope}
 use Rattle.samples.specs.declared.approach.Slope.the-variants.{Steepest}
 use Rattle.samples.specs.declared.approach.Slope.the-variants.{Refused as NoSlope}
 
--- 1000.0
-abbrev pub thousand : Float
-thousand = fin false 125 (pos 3)
-
--- "slopes under −120 are passed over"
-abbrev pub steepestSlope : Float
-steepestSlope = fin true 15 (pos 3)
+-- "slopes under −120 are passed over", in hertz for each second: −15 * 2 ^ 3
+abbrev pub slopeFloor : Float
+slopeFloor = fin true 15 (pos 3)
 
 -- the measured approach passes over none: nothing is under −infinity
 abbrev pub noFloor : Float
 noFloor = inf true
-
--- an instant that passes check 4 lies within this even after it is moved by some hours, in nanoseconds
-abbrev pub farthestMoved : ℕ
-farthestMoved = 4100000000000000000
-
--- nanoseconds in a millisecond
-abbrev pub millisecond : ℕ
-millisecond = 1000000
 
 -- "times in whole milliseconds over 1000": the seconds from one instant to another
 abbrev pub gapOf : ℤ → ℤ → Float
@@ -66,12 +56,12 @@ abbrev pub steeper : Float → List ℤ → LeastSlope → LeastSlope → Bool
 steeper floor ts s t = counts floor ts s && lt (s .slope) (t .slope)
 
 -- no sample yet: slope +0.0
-abbrev pub flat : LeastSlope
-flat = record { slope = nought; middle = 0 }
+abbrev pub noSlopeYet : LeastSlope
+noSlopeYet = record { slope = nought; middle = 0 }
 
 -- the first least slope below zero, over all samples but the first and the last; slope +0.0 where there is none
 abbrev pub leastSlope : Float → List ℤ → List Float → LeastSlope
-leastSlope floor ts fs = firstBest (steeper floor ts) flat (listOf (sloped ts fs) (length ts - 2) 1)
+leastSlope floor ts fs = firstBest (steeper floor ts) noSlopeYet (listOf (sloped ts fs) (length ts - 2) 1)
 
 -- "the first least below zero gives its middle sample's instant", in nanoseconds; 9 where no slope below zero was found
 abbrev pub approachOf : List ℤ → List Float → Outcome ℤ
@@ -80,12 +70,12 @@ approachOf ts fs = let best = leastSlope noFloor ts fs in cond (lt (best .slope)
 -- ---- the entries: checks 2 and 4 first
 
 -- the refusal, or the measured approach
-abbrev pub measuredApproach : List ℤ → List Float → Outcome ℤ
-measuredApproach ts fs = unlessRefused (firstFailing (samplesChecks ts fs)) (approachOf ts fs)
+abbrev pub estimateMeasuredPcaTime : List ℤ → List Float → Outcome ℤ
+estimateMeasuredPcaTime ts fs = unlessRefused (firstFailing (samplesChecks ts fs)) (approachOf ts fs)
 
 -- "answers 0 where none is below zero or under three samples"
-abbrev pub steepest : List ℤ → List Float → Outcome Float
-steepest ts fs = outcome (firstFailing (samplesChecks ts fs)) (leastSlope steepestSlope ts fs .slope)
+abbrev pub steepestSlope : List ℤ → List Float → Outcome Float
+steepestSlope ts fs = outcome (firstFailing (samplesChecks ts fs)) (leastSlope slopeFloor ts fs .slope)
 
 -- the paper's number and value of each case of the answers
 abbrev pub approachIn : Approach → Outcome ℤ
@@ -96,3 +86,19 @@ approachIn (NoApproach n) = refused n
 abbrev pub slopeIn : Slope → Outcome Float
 slopeIn (Steepest s) = answered s
 slopeIn (NoSlope n) = refused n
+
+-- ---- what demand 3 says of the measured approach
+
+-- "only where positive", and a slope "below zero": sample j stands between two others, the seconds from the one to the other are above zero,
+-- and the slope is below zero
+pub record Falls (ts : List ℤ) (fs : List Float) (j : ℕ) : Type 0 where
+  pub after : 0 < j
+  pub before : j + 1 < length ts
+  pub positive : T (lt nought (gapAt ts j))
+  pub falling : T (lt (slopeAt ts fs j) nought)
+
+-- "the first least below zero": every other such sample has at least the slope of sample i, and every earlier one a larger slope
+pub record FirstFall (ts : List ℤ) (fs : List Float) (i : ℕ) : Type 0 where
+  pub falls : Falls ts fs i
+  pub least : (j : ℕ) → Falls ts fs j → T (le (slopeAt ts fs i) (slopeAt ts fs j))
+  pub first : (j : ℕ) → j < i → Falls ts fs j → T (lt (slopeAt ts fs i) (slopeAt ts fs j))

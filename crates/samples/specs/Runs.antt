@@ -1,4 +1,4 @@
--- Runs of samples of one second, and seconds that never fall, by the places of the samples.
+-- Inner: runs of samples of one second, and seconds that never fall, by the places of the samples; and the limit of check 4 on instants.
 use Prim.Native.Nat.{ℕ, _+_, _≤_, _<_}
 use mathlib.Core.Path.{_≡_}
 use mathlib.Core.List.{List}
@@ -8,9 +8,13 @@ use lib.ListN.{length, getD}
 use Rattle.checks.specs.Limits.{farthestInstant}
 use Rattle.samples.specs.Means.{wholeSecond}
 
--- each instant passes check 4
-abbrev pub Reached : List ℤ → Type 0
-Reached ts = (k : ℕ) → natAbs (getD ts k (pos 0)) ≤ farthestInstant
+-- each instant is within the limit of check 4
+abbrev pub Limited : List ℤ → Type 0
+Limited ts = (k : ℕ) → natAbs (getD ts k (pos 0)) ≤ farthestInstant
+
+-- an instant that passes check 4 lies within this even after it is moved by some hours: 10 ^ 17 nanoseconds more
+abbrev pub farthestMoved : ℕ
+farthestMoved = farthestInstant + 100000000000000000
 
 -- the second of sample k
 abbrev pub secondAt : List ℤ → ℕ → ℤ

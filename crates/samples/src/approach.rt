@@ -1,14 +1,19 @@
 // The first least slope of a recording: the measured approach and the steepest slope.
 ghost use mathlib.Core.Path.{_≡_};
-ghost use Prim.Native.Nat.{ℕ, _+_, _<_, _≤_};
-ghost use lib.IntN.{pos, natAbs};
-ghost use lib.ListN.{length, getD};
+ghost use Prim.Native.Nat.{_+_, _<_, _≤_};
+ghost use lib.IntN.{natAbs};
+ghost use lib.ListN.{length};
 ghost use Rattle.common.specs.Search.{betterOf};
-ghost use Rattle.checks.specs.Limits.{farthestInstant};
-ghost use Rattle.samples.specs.Approach.{farthestMoved, gapOf, sloped, steeper, leastSlope, measuredApproach, steepest, approachIn, slopeIn};
+ghost use Rattle.samples.specs.Runs.{Limited, farthestMoved};
+ghost use Rattle.samples.specs.Approach.{gapOf, sloped, steeper, leastSlope, estimateMeasuredPcaTime, steepestSlope, approachIn, slopeIn};
 use checks::refuse_samples;
 use float::nearest;
+use units::MILLISECOND;
 use units::Nanoseconds;
+use units::SECOND_MILLISECONDS;
+
+// Slopes under it are passed over, in hertz for each second.
+const SLOPE_FLOOR: f64 = -120.0;
 
 // The measured approach: its instant, or the refusal (2, 4; 9 where no slope is below zero).
 pub enum Approach {
@@ -33,7 +38,7 @@ fn gap_between(previous: i64, next: i64) -> f64
     requires { ⌜ (natAbs previous ≤ farthestMoved) × (natAbs next ≤ farthestMoved) ⌝ }
     ensures { λ r. ⌜ r ≡ gapOf previous next ⌝ }
 {
-    nearest((next - previous) / 1000000) / 1000.0
+    nearest((next - previous) / MILLISECOND) / SECOND_MILLISECONDS
 }
 
 // The better of the best so far and the slope about sample i: it wins only if it is smaller and not under the floor.
@@ -44,7 +49,7 @@ fn steeper_at(
     floor: f64,
     best: LeastSlope,
 ) -> LeastSlope
-    requires { ⌜ (0 < i) × (i + 1 < length (now instants)) × (length (now frequencies) ≡ length (now instants)) × ((k : ℕ) → natAbs (getD (now instants) k (pos 0)) ≤ farthestInstant) ⌝ }
+    requires { ⌜ (0 < i) × (i + 1 < length (now instants)) × (length (now frequencies) ≡ length (now instants)) × Limited (now instants) ⌝ }
     ensures { λ r. ⌜ r ≡ betterOf (steeper floor (now (instants .entry))) best (sloped (now (instants .entry)) (now (frequencies .entry)) i) ⌝ }
 {
     let gap = gap_between(instants[i - 1], instants[i + 1]);
@@ -63,7 +68,7 @@ fn steeper_at(
 
 // The first least slope below zero that is not under the floor; 0.0 where there is none.
 fn least_slope(instants: &[i64], frequencies: &[f64], floor: f64) -> LeastSlope
-    requires { ⌜ (0 < length (now instants)) × (length (now frequencies) ≡ length (now instants)) × ((k : ℕ) → natAbs (getD (now instants) k (pos 0)) ≤ farthestInstant) ⌝ }
+    requires { ⌜ (0 < length (now instants)) × (length (now frequencies) ≡ length (now instants)) × Limited (now instants) ⌝ }
     ensures { λ r. ⌜ (r ≡ leastSlope floor (now (instants .entry)) (now (frequencies .entry))) × (r .middle < length (now (instants .entry))) ⌝ }
 {
     let mut best = LeastSlope {
@@ -83,7 +88,7 @@ fn least_slope(instants: &[i64], frequencies: &[f64], floor: f64) -> LeastSlope
 
 // The instant of the middle sample of the first least slope below zero.
 pub fn estimate_measured_pca_time(instants: &[i64], frequencies: &[f64]) -> Approach
-    ensures { λ r. ⌜ approachIn r ≡ measuredApproach (now (instants .entry)) (now (frequencies .entry)) ⌝ }
+    ensures { λ r. ⌜ approachIn r ≡ estimateMeasuredPcaTime (now (instants .entry)) (now (frequencies .entry)) ⌝ }
 {
     let refusal = refuse_samples(instants, frequencies);
     if refusal != 0 {
@@ -99,12 +104,12 @@ pub fn estimate_measured_pca_time(instants: &[i64], frequencies: &[f64]) -> Appr
 
 // The steepest slope of at least −120 hertz for each second; 0.0 where none is below zero.
 pub fn steepest_slope(instants: &[i64], frequencies: &[f64]) -> Slope
-    ensures { λ r. ⌜ slopeIn r ≡ steepest (now (instants .entry)) (now (frequencies .entry)) ⌝ }
+    ensures { λ r. ⌜ slopeIn r ≡ steepestSlope (now (instants .entry)) (now (frequencies .entry)) ⌝ }
 {
     let refusal = refuse_samples(instants, frequencies);
     if refusal != 0 {
         return Slope::Refused(refusal);
     }
-    let best = least_slope(instants, frequencies, -120.0);
+    let best = least_slope(instants, frequencies, SLOPE_FLOOR);
     Slope::Steepest(best.slope)
 }

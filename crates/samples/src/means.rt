@@ -3,7 +3,7 @@ ghost use mathlib.Core.Path.{_≡_};
 ghost use Prim.Native.Nat.{_≤_, _<_};
 ghost use lib.ListN.{length};
 ghost use Rattle.common.specs.Outcome.{written};
-ghost use Rattle.samples.specs.Means.{countOf, meansCount, meansInstants, meansFrequencies, recording, means};
+ghost use Rattle.samples.specs.Means.{downsampledIn, downsampleData, downsampledInstants, downsampledFrequencies, recording, means};
 ghost use Rattle.samples.specs.Sums.{Recorded, instantsOfMeans, frequenciesOfMeans};
 ghost use Rattle.samples.specs.Sorting.{fewSamples};
 use crate::runs::never_falls;
@@ -35,10 +35,13 @@ fn write_sorted(
 ) -> usize
     requires { ⌜ Recorded (now instants) (now frequencies) ⌝ }
     requires { ⌜ (length (now instants) ≤ length (now «mean_instants»)) × (length (now instants) ≤ length (now «mean_frequencies»)) ⌝ }
-    requires { ⌜ (length (now instants) ≤ length (now «sorted_instants»)) × (length (now instants) ≤ length (now «sorted_frequencies»)) × (length (now instants) ≤ length (now «spare_instants»)) × (length (now instants) ≤ length (now «spare_frequencies»)) ⌝ }
+    requires { ⌜ (length (now instants) ≤ length (now «sorted_instants»)) × (length (now instants) ≤ length (now «sorted_frequencies»))
+        × (length (now instants) ≤ length (now «spare_instants»)) × (length (now instants) ≤ length (now «spare_frequencies»)) ⌝ }
     ensures { λ r. ⌜ r ≡ length (means (recording (now (instants .entry)) (now (frequencies .entry)))) ⌝ }
-    ensures { λ r. ⌜ now («mean_instants» .exit) ≡ written (instantsOfMeans (now (instants .entry)) (now (frequencies .entry))) (now («mean_instants» .entry)) ⌝ }
-    ensures { λ r. ⌜ now («mean_frequencies» .exit) ≡ written (frequenciesOfMeans (now (instants .entry)) (now (frequencies .entry))) (now («mean_frequencies» .entry)) ⌝ }
+    ensures { λ r. ⌜ now («mean_instants» .exit)
+        ≡ written (instantsOfMeans (now (instants .entry)) (now (frequencies .entry))) (now («mean_instants» .entry)) ⌝ }
+    ensures { λ r. ⌜ now («mean_frequencies» .exit)
+        ≡ written (frequenciesOfMeans (now (instants .entry)) (now (frequencies .entry))) (now («mean_frequencies» .entry)) ⌝ }
 {
     let count = instants.len();
     copy_instants(instants, count, &mut *sorted_instants, 0);
@@ -68,8 +71,10 @@ fn write_shuffled(
     requires { ⌜ Recorded (now instants) (now frequencies) ⌝ }
     requires { ⌜ (length (now instants) ≤ length (now «mean_instants»)) × (length (now instants) ≤ length (now «mean_frequencies»)) ⌝ }
     ensures { λ r. ⌜ r ≡ length (means (recording (now (instants .entry)) (now (frequencies .entry)))) ⌝ }
-    ensures { λ r. ⌜ now («mean_instants» .exit) ≡ written (instantsOfMeans (now (instants .entry)) (now (frequencies .entry))) (now («mean_instants» .entry)) ⌝ }
-    ensures { λ r. ⌜ now («mean_frequencies» .exit) ≡ written (frequenciesOfMeans (now (instants .entry)) (now (frequencies .entry))) (now («mean_frequencies» .entry)) ⌝ }
+    ensures { λ r. ⌜ now («mean_instants» .exit)
+        ≡ written (instantsOfMeans (now (instants .entry)) (now (frequencies .entry))) (now («mean_instants» .entry)) ⌝ }
+    ensures { λ r. ⌜ now («mean_frequencies» .exit)
+        ≡ written (frequenciesOfMeans (now (instants .entry)) (now (frequencies .entry))) (now («mean_frequencies» .entry)) ⌝ }
 {
     let mut sorted_instants = [0i64; MOST_SAMPLES];
     let mut sorted_frequencies = [0.0; MOST_SAMPLES];
@@ -98,8 +103,10 @@ fn write_few_shuffled(
     requires { ⌜ length (now instants) ≤ fewSamples ⌝ }
     requires { ⌜ (length (now instants) ≤ length (now «mean_instants»)) × (length (now instants) ≤ length (now «mean_frequencies»)) ⌝ }
     ensures { λ r. ⌜ r ≡ length (means (recording (now (instants .entry)) (now (frequencies .entry)))) ⌝ }
-    ensures { λ r. ⌜ now («mean_instants» .exit) ≡ written (instantsOfMeans (now (instants .entry)) (now (frequencies .entry))) (now («mean_instants» .entry)) ⌝ }
-    ensures { λ r. ⌜ now («mean_frequencies» .exit) ≡ written (frequenciesOfMeans (now (instants .entry)) (now (frequencies .entry))) (now («mean_frequencies» .entry)) ⌝ }
+    ensures { λ r. ⌜ now («mean_instants» .exit)
+        ≡ written (instantsOfMeans (now (instants .entry)) (now (frequencies .entry))) (now («mean_instants» .entry)) ⌝ }
+    ensures { λ r. ⌜ now («mean_frequencies» .exit)
+        ≡ written (frequenciesOfMeans (now (instants .entry)) (now (frequencies .entry))) (now («mean_frequencies» .entry)) ⌝ }
 {
     let mut sorted_instants = [0i64; FEW_SAMPLES];
     let mut sorted_frequencies = [0.0; FEW_SAMPLES];
@@ -127,8 +134,10 @@ pub(crate) fn write_means(
     requires { ⌜ Recorded (now instants) (now frequencies) ⌝ }
     requires { ⌜ (length (now instants) ≤ length (now «mean_instants»)) × (length (now instants) ≤ length (now «mean_frequencies»)) ⌝ }
     ensures { λ r. ⌜ r ≡ length (means (recording (now (instants .entry)) (now (frequencies .entry)))) ⌝ }
-    ensures { λ r. ⌜ now («mean_instants» .exit) ≡ written (instantsOfMeans (now (instants .entry)) (now (frequencies .entry))) (now («mean_instants» .entry)) ⌝ }
-    ensures { λ r. ⌜ now («mean_frequencies» .exit) ≡ written (frequenciesOfMeans (now (instants .entry)) (now (frequencies .entry))) (now («mean_frequencies» .entry)) ⌝ }
+    ensures { λ r. ⌜ now («mean_instants» .exit)
+        ≡ written (instantsOfMeans (now (instants .entry)) (now (frequencies .entry))) (now («mean_instants» .entry)) ⌝ }
+    ensures { λ r. ⌜ now («mean_frequencies» .exit)
+        ≡ written (frequenciesOfMeans (now (instants .entry)) (now (frequencies .entry))) (now («mean_frequencies» .entry)) ⌝ }
 {
     if never_falls(instants) {
         return write_runs(instants, frequencies, mean_instants, mean_frequencies);
@@ -146,9 +155,12 @@ pub fn downsample_data(
     mean_instants: &mut [i64],
     mean_frequencies: &mut [f64],
 ) -> Downsampled
-    ensures { λ r. ⌜ countOf r ≡ meansCount (now (instants .entry)) (now (frequencies .entry)) (now («mean_instants» .entry)) (now («mean_frequencies» .entry)) ⌝ }
-    ensures { λ r. ⌜ now («mean_instants» .exit) ≡ meansInstants (now (instants .entry)) (now (frequencies .entry)) (now («mean_instants» .entry)) (now («mean_frequencies» .entry)) ⌝ }
-    ensures { λ r. ⌜ now («mean_frequencies» .exit) ≡ meansFrequencies (now (instants .entry)) (now (frequencies .entry)) (now («mean_instants» .entry)) (now («mean_frequencies» .entry)) ⌝ }
+    ensures { λ r. ⌜ downsampledIn r
+        ≡ downsampleData (now (instants .entry)) (now (frequencies .entry)) (now («mean_instants» .entry)) (now («mean_frequencies» .entry)) ⌝ }
+    ensures { λ r. ⌜ now («mean_instants» .exit)
+        ≡ downsampledInstants (now (instants .entry)) (now (frequencies .entry)) (now («mean_instants» .entry)) (now («mean_frequencies» .entry)) ⌝ }
+    ensures { λ r. ⌜ now («mean_frequencies» .exit)
+        ≡ downsampledFrequencies (now (instants .entry)) (now (frequencies .entry)) (now («mean_instants» .entry)) (now («mean_frequencies» .entry)) ⌝ }
 {
     let refusal = checks::refuse_means(instants, frequencies, mean_instants, mean_frequencies);
     if refusal != 0 {

@@ -5,11 +5,11 @@ ghost use Prim.Native.Nat.{_≤_, _<_};
 ghost use lib.Signed.{ltZ};
 ghost use lib.ListN.{length, set};
 ghost use Rattle.common.specs.Outcome.{written};
-ghost use Rattle.samples.specs.Means.{recording, wholeSecond, bin, meanOf, means};
-ghost use Rattle.samples.specs.Sums.{Start, Recorded, instantsOfMeans, frequenciesOfMeans};
-ghost use Rattle.samples.specs.Runs.{Reached, secondAt, NeverFalls, Begins, Run};
-use crate::sums::bin_mean;
+ghost use Rattle.samples.specs.Means.{recording, wholeSecond, means};
+ghost use Rattle.samples.specs.Sums.{StartsSecond, Recorded, meanAt, instantsOfMeans, frequenciesOfMeans};
+ghost use Rattle.samples.specs.Runs.{Limited, secondAt, NeverFalls, Begins, Run};
 use crate::sums::in_second;
+use crate::sums::run_mean;
 use crate::sums::second_of;
 use crate::sums::second_start;
 
@@ -25,7 +25,7 @@ fn falls(a: i64, b: i64) -> bool
 
 // Whether the samples' seconds never fall.
 pub(crate) fn never_falls(instants: &[i64]) -> bool
-    requires { ⌜ Reached (now instants) ⌝ }
+    requires { ⌜ Limited (now instants) ⌝ }
     ensures { λ r. ⌜ (r ≡ true → NeverFalls (now (instants .entry))) ⌝ }
 {
     let mut k: usize = 1;
@@ -41,8 +41,8 @@ pub(crate) fn never_falls(instants: &[i64]) -> bool
 // Where the run of samples of one second that begins there ends.
 fn run_end(instants: &[i64], from: usize, start: i64) -> usize
     requires { ⌜ from < length (now instants) ⌝ }
-    requires { ⌜ Reached (now instants) ⌝ }
-    requires { ⌜ Start start ⌝ }
+    requires { ⌜ Limited (now instants) ⌝ }
+    requires { ⌜ StartsSecond start ⌝ }
     requires { ⌜ wholeSecond start ≡ secondAt (now instants) from ⌝ }
     ensures { λ r. ⌜ Run (now (instants .entry)) from r ⌝ }
 {
@@ -70,12 +70,14 @@ fn write_run(
     requires { ⌜ (from < length (now instants)) × (place < length (now «mean_instants»)) × (place < length (now «mean_frequencies»)) ⌝ }
     requires { ⌜ Begins (now instants) from ⌝ }
     ensures { λ r. ⌜ Run (now (instants .entry)) from r ⌝ }
-    ensures { λ r. ⌜ now («mean_instants» .exit) ≡ set (now («mean_instants» .entry)) place (meanOf (bin (secondAt (now (instants .entry)) from) (recording (now (instants .entry)) (now (frequencies .entry)))) .instant) ⌝ }
-    ensures { λ r. ⌜ now («mean_frequencies» .exit) ≡ set (now («mean_frequencies» .entry)) place (meanOf (bin (secondAt (now (instants .entry)) from) (recording (now (instants .entry)) (now (frequencies .entry)))) .frequency) ⌝ }
+    ensures { λ r. ⌜ now («mean_instants» .exit)
+        ≡ set (now («mean_instants» .entry)) place (meanAt (now (instants .entry)) (now (frequencies .entry)) from .instant) ⌝ }
+    ensures { λ r. ⌜ now («mean_frequencies» .exit)
+        ≡ set (now («mean_frequencies» .entry)) place (meanAt (now (instants .entry)) (now (frequencies .entry)) from .frequency) ⌝ }
 {
     let start = second_start(instants[from]);
     let end = run_end(instants, from, start);
-    let mean = bin_mean(&instants[from..end], &frequencies[from..end], start);
+    let mean = run_mean(&instants[from..end], &frequencies[from..end]);
     let instant = mean.instant;
     let frequency = mean.frequency;
     mean_instants[place] = instant;
@@ -94,8 +96,10 @@ pub(crate) fn write_runs(
     requires { ⌜ NeverFalls (now instants) ⌝ }
     requires { ⌜ (length (now instants) ≤ length (now «mean_instants»)) × (length (now instants) ≤ length (now «mean_frequencies»)) ⌝ }
     ensures { λ r. ⌜ r ≡ length (means (recording (now (instants .entry)) (now (frequencies .entry)))) ⌝ }
-    ensures { λ r. ⌜ now («mean_instants» .exit) ≡ written (instantsOfMeans (now (instants .entry)) (now (frequencies .entry))) (now («mean_instants» .entry)) ⌝ }
-    ensures { λ r. ⌜ now («mean_frequencies» .exit) ≡ written (frequenciesOfMeans (now (instants .entry)) (now (frequencies .entry))) (now («mean_frequencies» .entry)) ⌝ }
+    ensures { λ r. ⌜ now («mean_instants» .exit)
+        ≡ written (instantsOfMeans (now (instants .entry)) (now (frequencies .entry))) (now («mean_instants» .entry)) ⌝ }
+    ensures { λ r. ⌜ now («mean_frequencies» .exit)
+        ≡ written (frequenciesOfMeans (now (instants .entry)) (now (frequencies .entry))) (now («mean_frequencies» .entry)) ⌝ }
 {
     let mut count: usize = 0;
     let mut from: usize = 0;

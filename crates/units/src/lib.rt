@@ -1,5 +1,6 @@
 // The units of the ship clock, each a type of its own with one field, so that kilometres cannot stand where metres are meant;
-// and the records of three. An ECEF coordinate is earth-centred and earth-fixed. The units have C's layout, since the exports take them.
+// the records of three; spans of time and the speed of light by name. An ECEF coordinate is earth-centred and earth-fixed. The units have C's
+// layout, since the exports take them.
 
 // A length in metres.
 #[repr(C)]
@@ -37,3 +38,21 @@ pub struct Observer {
     pub y: Metres,
     pub z: Metres,
 }
+
+// Nanoseconds in a second.
+pub const SECOND: i64 = 1_000_000_000;
+
+// Nanoseconds in a millisecond.
+pub const MILLISECOND: i64 = 1_000_000;
+
+// Nanoseconds in a microsecond.
+pub const MICROSECOND: i64 = 1_000;
+
+// The speed of light, in metres for each second.
+pub const LIGHT_SPEED: f64 = 299792458.0;
+
+// Milliseconds in a second, as a double.
+pub const SECOND_MILLISECONDS: f64 = 1000.0;
+
+// Microseconds in a second, as a double.
+pub const SECOND_MICROSECONDS: f64 = 1000000.0;

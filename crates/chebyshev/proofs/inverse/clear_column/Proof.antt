@@ -1,7 +1,8 @@
 -- The pivot's test is the definition's, and each later step is one of its steps, as the callees ensure. Assumes nothing.
-use mathlib.Core.Path.{_≡_, refl, sym, ap, _∙_}
+use mathlib.Core.Path.{_≡_, sym, ap, _∙_}
 use mathlib.Core.Bool.{true, false, not, true≢false}
-use Rattle.chebyshev.specs.Inverse.{tooSmall, clearedColumn}
+use Rattle.chebyshev.specs.Inverse.{tooSmall}
+use Rattle.chebyshev.specs.Steps.{clearedColumn}
 use Rattle.chebyshev.proofs.Columns.{small-is, turned}
 use borrow.Author.Needs.{needs}
 use Rattle.chebyshev.proofs.inverse.clear_column.Statement.{statement}
@@ -75,17 +76,33 @@ taken c =
     let pivot = c .before .before .before .pivot-row in
     small-is (s .args .i) (pivot .result) (s .args .t .now) (c .before .magnitude .result) false (pivot .ensures .1) (c .before .magnitude .ensures) (c .if1 .left)
 
-both : (c : tie.After-clear-rows2) → (let s = c .before .before .before .before .before .before .before .before .before .before .before .before .before .before .before .before .before .before .before .before in
-    (c .clear-rows2 .last .0 ≡ c .clear-rows2 .last .0) × (c .before .before .clear-rows .last .0 ≡ clearedColumn (s .args .i) (s .args .t .now) (s .args .t .now)) × (c .clear-rows2 .last .0 ≡ clearedColumn (s .args .i) (s .args .t .now) (s .args .v .now)))
+-- where the pivot was found not too small
+abbrev else : tie.After-clear-rows2 → tie.Else1
+else c =
+    let columned = c .before .before .before .before in
+    let exchanged = columned .before .before .before .before .before .before .before in
+    exchanged .before .before .before .before
+
+-- where the function began
+abbrev start : tie.After-clear-rows2 → tie.Start
+start c = else c .before .before .before .before .before
+
+both : (c : tie.After-clear-rows2) → (let args = start c .args in
+    (c .before .before .clear-rows .last .0 ≡ clearedColumn (args .i) (args .t .now) (args .t .now)) × (c .clear-rows2 .last .0 ≡ clearedColumn (args .i) (args .t .now) (args .v .now)))
 both c =
-    let s = c .before .before .before .before .before .before .before .before .before .before .before .before .before .before .before .before .before .before .before .before in
-    let pivot = c .before .before .before .before .before .before .before .before .before .before .before .before .before .before .before .before .before .before .pivot-row in
-    let h = turned (s .args .i) (pivot .result) (s .args .t .now) (s .args .v .now) (c .before .before .before .before .before .before .before .before .before .before .before .before .before .swap-rows .last .0) (c .before .before .before .before .before .before .before .before .before .before .before .swap-rows2 .last .0) (c .before .before .before .before .before .before .before .before .scale-at .last .0) (c .before .before .before .before .before .before .scale-at2 .last .0) (c .before .before .clear-rows .last .0) (c .clear-rows2 .last .0) (c .before .before .before .before .column-of .result)
-    (pivot .ensures .1) (c .before .before .before .before .before .before .before .before .before .before .before .before .before .swap-rows .ensures) (c .before .before .before .before .before .before .before .before .before .before .before .swap-rows2 .ensures) (c .before .before .before .before .before .before .before .before .scale-at .ensures) (c .before .before .before .before .before .before .scale-at2 .ensures) (c .before .before .before .before .column-of .ensures) (c .before .before .clear-rows .ensures) (c .clear-rows2 .ensures) in
-    (refl, h .0, h .1)
+    let args = start c .args in
+    let pivot = else c .before .before .before .pivot-row in
+    let cleared = c .before .before .clear-rows in
+    let columned = c .before .before .before .before in
+    let scaled = columned .before .before .before .before in
+    let exchanged = scaled .before .before .before in
+    turned (args .i) (pivot .result) (args .t .now) (args .v .now) (exchanged .before .before .swap-rows .last .0) (exchanged .swap-rows2 .last .0) (scaled .scale-at .last .0) (columned .before .before .scale-at2 .last .0)
+    (cleared .last .0) (c .clear-rows2 .last .0) (columned .column-of .result)
+    (pivot .ensures .1) (exchanged .before .before .swap-rows .ensures) (exchanged .swap-rows2 .ensures) (scaled .scale-at .ensures) (columned .before .before .scale-at2 .ensures)
+    (columned .column-of .ensures) (cleared .ensures) (c .clear-rows2 .ensures)
 
 returns-2 : tie.Need-returns-2
-returns-2 c = record { answer = sym (ap not (taken (c .before .before .before .before .before .before .before .before .before .before .before .before .before .before .before))); matrix = λ u. both c .1; inverse = λ u. both c .2 }
+returns-2 c = record { answer = sym (ap not (taken (else c))); matrix = λ u. both c .0; inverse = λ u. both c .1 }
 
 pub clear-column-spec : {M : Type 1} → statement M
 clear-column-spec =

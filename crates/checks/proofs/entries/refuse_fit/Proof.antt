@@ -84,7 +84,7 @@ returns c =
     let e2 = one-more 2 e1 (s2 .or-else2 .ensures) (s2 .before .unsampled .ensures) in
     let e3 = one-more 4 e2 (s3 .or-else3 .ensures) (s3 .before .any-beyond .ensures) in
     let e4 = one-more 4 e3 (s4 .or-else4 .ensures) (s4 .before .any-beyond2 .ensures) in
-    let e5 = one-more 4 e4 (s5 .or-else5 .ensures) (told (at .before .before .before .before .before .before .before .before .before .before .before .args .measured .0) (record { sfits = at .struct-told .given .0 .1 }) (s5 .before .beyond .ensures)) in
+    let e5 = one-more 4 e4 (s5 .or-else5 .ensures) (told (s1 .before .before .before .before .args .measured .0) (record { sfits = at .struct-told .given .0 .1 }) (s5 .before .beyond .ensures)) in
     let e6 = one-more 5 e5 (s6 .or-else6 .ensures) (s6 .before .unrising .ensures) in
     let e7 = one-more 6 e6 (s7 .or-else7 .ensures) (s7 .before .any-misplaced .ensures) in
     let e8 = one-more 6 e7 (s8 .or-else8 .ensures) (s8 .before .misplaced .ensures) in

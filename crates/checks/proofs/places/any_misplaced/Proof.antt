@@ -54,8 +54,9 @@ misplaced-requires c κs = search needs
 returns : tie.Need-returns Inv-loop μ-loop
 returns c =
     let call = c .before .misplaced in
-    let at = c .before .before .before .before .before .before .loop in
-    let l = c .before .before .before .before .before .before .before .before .args .positions .now in
+    let turn = c .before .before .before .before .before .before in
+    let at = turn .loop in
+    let l = turn .before .before .args .positions .now in
     place-found nan l (at .k) (at .inv .3) (omega arith) (sym (call .ensures) ∙ c .if1 .taken)
 
 add-k : tie.Need-add-k Inv-loop μ-loop
@@ -67,8 +68,9 @@ loop-less c = search needs
 loop-again : tie.Need-loop-again Inv-loop μ-loop
 loop-again c =
     let call = c .before .misplaced in
-    let at = c .before .before .before .before .before .before .loop in
-    let l = c .before .before .before .before .before .before .before .before .args .positions .now in
+    let turn = c .before .before .before .before .before .before in
+    let at = turn .loop in
+    let l = turn .before .before .args .positions .now in
     (search needs, search needs, search needs, place-more nan l (at .k) (at .inv .3) (omega arith) (sym (call .ensures) ∙ c .if1 .left))
 
 returns-2 : tie.Need-returns-2 Inv-loop μ-loop

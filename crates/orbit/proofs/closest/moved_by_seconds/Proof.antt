@@ -4,25 +4,30 @@ use lib.IntN.{ℤ, pos, _+ℤ_, _*ℤ_}
 use mir.Syntax.{w64}
 use mir.Val.{SFits}
 use mir.ValLaws.{toZ-ofZ}
-use Rattle.orbit.proofs.Offsets.{back, seconds-fit, later-fits}
+use Rattle.common.specs.Time.{second}
+use Rattle.orbit.specs.Closest.{movedBySeconds}
+use Rattle.orbit.proofs.Offsets.{back, near-is, seconds-fit, later-fits}
 use Rattle.orbit.proofs.closest.moved_by_seconds.Statement.{statement}
 use Rattle.orbit.proofs.closest.moved_by_seconds.Tie as tie
 
 -- the product and the sum as the machine has them
-product : (c : tie.Start) → back (c .args .offset) *ℤ pos 1000000000 ≡ c .args .offset *ℤ pos 1000000000
-product c = ap (λ (z : ℤ). z *ℤ pos 1000000000) (toZ-ofZ w64 (c .args .offset) (c .fits .offset))
+product : (s : tie.Start) → back (s .args .offset) *ℤ pos second ≡ s .args .offset *ℤ pos second
+product s = ap (λ (z : ℤ). z *ℤ pos second) (toZ-ofZ w64 (s .args .offset) (s .fits .offset))
 
-sum : (c : tie.Start) → back (c .args .t) +ℤ back (back (c .args .offset) *ℤ pos 1000000000) ≡ c .args .t +ℤ c .args .offset *ℤ pos 1000000000
-sum c = ap₂ _+ℤ_ (toZ-ofZ w64 (c .args .t) (c .fits .t)) (ap back (product c) ∙ toZ-ofZ w64 (c .args .offset *ℤ pos 1000000000) (seconds-fit (c .args .offset) (c .pre .1)))
+sum : (s : tie.Start) → back (s .args .t .0) +ℤ back (back (s .args .offset) *ℤ pos second) ≡ movedBySeconds (s .args .t .0) (s .args .offset)
+sum s = ap₂ _+ℤ_ (near-is (s .args .t .0) (s .pre .0)) (ap back (product s) ∙ toZ-ofZ w64 (s .args .offset *ℤ pos second) (seconds-fit (s .args .offset) (s .pre .1)))
 
-mul-result : tie.Need-mul-result
-mul-result c = subst (SFits w64) (sym (product c)) (seconds-fit (c .args .offset) (c .pre .1))
+moved-fits : (s : tie.Start) → SFits w64 (movedBySeconds (s .args .t .0) (s .args .offset))
+moved-fits s = later-fits (s .args .t .0) (s .args .offset) (s .pre .0) (s .pre .1)
 
-add-result : tie.Need-add-result
-add-result c = subst (SFits w64) (sym (sum c)) (later-fits (c .args .t) (c .args .offset) (c .pre .0) (c .pre .1))
+mul-t3 : tie.Need-mul-t3
+mul-t3 s = subst (SFits w64) (sym (product s)) (seconds-fit (s .args .offset) (s .pre .1))
+
+add-t4 : tie.Need-add-t4
+add-t4 c = let s = c .before .before in subst (SFits w64) (sym (sum s)) (moved-fits s)
 
 returns : tie.Need-returns
-returns c = ap back (sum c) ∙ toZ-ofZ w64 (c .args .t +ℤ c .args .offset *ℤ pos 1000000000) (later-fits (c .args .t) (c .args .offset) (c .pre .0) (c .pre .1))
+returns c = let s = c .before .before in ap back (sum s) ∙ toZ-ofZ w64 (movedBySeconds (s .args .t .0) (s .args .offset)) (moved-fits s)
 
 pub moved-by-seconds-spec : {M : Type 1} → statement M
-moved-by-seconds-spec = tie.close (tie.spec mul-result add-result returns)
+moved-by-seconds-spec = tie.close (tie.spec mul-t3 add-t4 returns)

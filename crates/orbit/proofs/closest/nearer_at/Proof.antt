@@ -1,5 +1,5 @@
 -- By what the propagation answered, and whether the squared range is smaller. Assumes nothing.
-use mathlib.Core.Path.{_≡_, ap, ap₂, _∙_}
+use mathlib.Core.Path.{_≡_, ap, _∙_}
 use mir.Syntax.{w64}
 use mir.Val.{toZ, ofZ}
 use mir.ValLaws.{toZ-ofZ}
@@ -24,38 +24,36 @@ enum-told : tie.Need-enum-told
 enum-told c = search needs
 
 abbrev at-offset : tie.Start → Outcome Motion
-at-offset s = propagated (s .args .tolerance) (s .args .instants .now) (s .args .positions .now) (movedBySeconds (s .args .around) (s .args .offset))
+at-offset s = let a = s .args in propagated (a .tolerance) (a .instants .now) (a .positions .now) (movedBySeconds (a .around .0) (a .offset))
 
 propagated-there : (c : tie.After-propagate-at) → motionIn (c .propagate-at .result) ≡ at-offset (c .before .before .before)
-propagated-there c = let s = c .before .before .before in c .propagate-at .ensures ∙ ap (propagated (s .args .tolerance) (s .args .instants .now) (s .args .positions .now)) (moved (c .before))
-  where
-    moved : (c : tie.After-moved-by-seconds) → toZ w64 (ofZ w64 (c .moved-by-seconds .result)) ≡ movedBySeconds (c .before .before .args .around) (c .before .before .args .offset)
-    moved c =
-        let s = c .before .before in
-        let call = c .moved-by-seconds in
-        toZ-ofZ w64 (call .result) (record { sfits = call .ok }) ∙ call .ensures ∙ ap₂ movedBySeconds (toZ-ofZ w64 (s .args .around) (s .fits .around)) (toZ-ofZ w64 (s .args .offset) (s .fits .offset))
+propagated-there c =
+    let s = c .before .before .before in
+    let a = s .args in
+    c .propagate-at .ensures
+    ∙ ap (propagated (a .tolerance) (a .instants .now) (a .positions .now)) (c .before .moved-by-seconds .ensures ∙ ap (movedBySeconds (a .around .0)) (toZ-ofZ w64 (a .offset) (s .fits .offset)))
 
 returns : tie.Need-returns
 returns c =
-    let s = c .before .before .before .before .before in
-    let call = c .before .before .propagate-at in
-    nearer-refused (s .args .observer) (call .result) (at-offset s) (c .enum-told .given .0 .0) (s .args .offset) (s .args .best) (propagated-there (c .before .before)) (c .enum-told .given .1)
+    let there = c .before .before in
+    let s = there .before .before .before in
+    nearer-refused (s .args .observer) (there .propagate-at .result) (at-offset s) (c .enum-told .given .0 .0) (s .args .offset) (s .args .best) (propagated-there there) (c .enum-told .given .1)
 
 squared-range-requires : tie.Need-squared-range-requires
 squared-range-requires c κs = search needs
 
 returns-2 : tie.Need-returns-2
 returns-2 c =
-    let s = c .before .before .before .before .before .before .before .before .before in
     let there = c .before .before .before .before .before .before in
+    let s = there .before .before .before in
     let told = c .before .before .before .before .p .given in
     nearer-won (s .args .observer) (there .propagate-at .result) (at-offset s) (told .0 .0) (told .0 .1 .0) (s .args .offset) (toZ w64 (ofZ w64 (s .args .offset))) (s .args .best) (c .before .before .squared-range .result)
     (propagated-there there) (told .1) (c .before .before .squared-range .ensures) (toZ-ofZ w64 (s .args .offset) (s .fits .offset)) (c .if1 .taken)
 
 returns-3 : tie.Need-returns-3
 returns-3 c =
-    let s = c .before .before .before .before .before .before .before .before .before in
     let there = c .before .before .before .before .before .before in
+    let s = there .before .before .before in
     let told = c .before .before .before .before .p .given in
     nearer-lost (s .args .observer) (there .propagate-at .result) (at-offset s) (told .0 .0) (told .0 .1 .0) (s .args .offset) (s .args .best) (c .before .before .squared-range .result)
     (propagated-there there) (told .1) (c .before .before .squared-range .ensures) (c .if1 .left)

@@ -1,30 +1,27 @@
 -- Refused inputs give their number; else the samples have room among the values and the fit is the definition's. Assumes nothing.
-use mathlib.Core.Path.{_≡_, sym, ap, _∙_, subst}
-use Prim.Native.Nat.{ℕ, _≤_}
-use lib.IntN.{ℤ, natAbs}
+use mathlib.Core.Path.{sym, _∙_}
+use Prim.Native.Nat.{ℕ}
 use lib.Ieee.{ofBits}
 use Rattle.samples.specs.Means.{recording}
 use Rattle.common.specs.Outcome.{Outcome}
 use Rattle.checks.specs.Entries.{firstFailing, fitChecks}
-use Rattle.checks.proofs.Passed.{fit-table, fit-samples, fit-near}
+use Rattle.checks.proofs.Checked.{fit-table, fit-samples, fit-near}
 use Rattle.common.proofs.Outcomes.{unless-refused, unless-none}
 use Rattle.orbit.specs.declared.fit.Report.{Report}
 use Rattle.orbit.specs.Window.{evenTolerance}
-use Rattle.orbit.specs.Fit.{fitted}
-use Rattle.orbit.specs.Residuals.{inputsOf}
-use Rattle.orbit.proofs.Offsets.{near-is}
+use Rattle.orbit.specs.Fit.{fitOf}
+use Rattle.orbit.specs.Residuals.{settingsOf, inputsOf}
 use borrow.Author.Needs.{needs}
 use Rattle.orbit.proofs.fit.fit_satellite.Statement.{statement}
 use Rattle.orbit.proofs.fit.fit_satellite.Tie as tie
 
 abbrev failing-of : tie.Start → ℕ
-failing-of s = let a = s .args in firstFailing (fitChecks (a .instants .now) (a .positions .now) (a .samples .now) (a .frequencies .now) (a .observer .x .0) (a .observer .y .0) (a .observer .z .0) (a .f0 .0) (a .measured .0))
+failing-of s = let a = s .args in firstFailing (fitChecks (a .instants .now) (a .positions .now) (a .samples .now) (a .frequencies .now) (a .observer) (a .f0) (a .measured .0))
 
-abbrev fitted-of : tie.Start → Outcome Report
-fitted-of s = let a = s .args in fitted (inputsOf evenTolerance (a .instants .now) (a .positions .now) (a .observer) (a .f0 .0)) (recording (a .samples .now) (a .frequencies .now)) (a .measured .0)
-
-near-of : (s : tie.Start) → failing-of s ≡ 0 → natAbs (s .args .measured .0) ≤ 4000000000000000000
-near-of s h = let a = s .args in fit-near (a .instants .now) (a .positions .now) (a .samples .now) (a .frequencies .now) (a .observer .x .0) (a .observer .y .0) (a .observer .z .0) (a .f0 .0) (a .measured .0) h
+abbrev fit-of : tie.Start → Outcome Report
+fit-of s =
+    let a = s .args in
+    fitOf (inputsOf (a .instants .now) (a .positions .now) (settingsOf (a .observer) (a .f0) evenTolerance)) (recording (a .samples .now) (a .frequencies .now)) (a .measured .0)
 
 refuse-fit-requires : tie.Need-refuse-fit-requires
 refuse-fit-requires c κs = search needs
@@ -33,32 +30,29 @@ returns : tie.Need-returns
 returns c =
     let s = c .before .before .before .before in
     let call = c .before .refuse-fit in
-    unless-refused (call .result) (failing-of s) (fitted-of s) (call .ensures) (c .if1 .taken)
+    unless-refused (call .result) (failing-of s) (fit-of s) (call .ensures) (c .if1 .taken)
 
 slice-aggregate-fit-about : tie.Need-slice-aggregate-fit-about
 slice-aggregate-fit-about c = search needs
 
 fit-about-requires : tie.Need-fit-about-requires
 fit-about-requires c κs =
-    let none = c .before .before in
-    let s = none .before .before .before .before in
-    let a = s .args in
+    let none = c .before in
+    let a = none .before .before .before .before .args in
     let h = sym (none .before .refuse-fit .ensures) ∙ none .if1 .left in
-    let t = fit-table (a .instants .now) (a .positions .now) (a .samples .now) (a .frequencies .now) (a .observer .x .0) (a .observer .y .0) (a .observer .z .0) (a .f0 .0) (a .measured .0) h in
-    let f = fit-samples (a .instants .now) (a .positions .now) (a .samples .now) (a .frequencies .now) (a .observer .x .0) (a .observer .y .0) (a .observer .z .0) (a .f0 .0) (a .measured .0) h in
-    (record { table = t; sampled = f; room = f .few }, subst (λ (z : ℤ). natAbs z ≤ 4000000000000000000) (sym (near-is (a .measured .0) (near-of s h))) (near-of s h))
+    let t = fit-table (a .instants .now) (a .positions .now) (a .samples .now) (a .frequencies .now) (a .observer) (a .f0) (a .measured .0) h in
+    let f = fit-samples (a .instants .now) (a .positions .now) (a .samples .now) (a .frequencies .now) (a .observer) (a .f0) (a .measured .0) h in
+    let near = fit-near (a .instants .now) (a .positions .now) (a .samples .now) (a .frequencies .now) (a .observer) (a .f0) (a .measured .0) h in
+    (record { table = t; sampled = f; room = f .few }, near)
 
 returns-2 : tie.Need-returns-2
 unfolding ofBits
 returns-2 c =
     let call = c .before in
-    let none = call .before .before .before in
+    let none = call .before .before in
     let s = none .before .before .before .before in
-    let a = s .args in
     let check = none .before .refuse-fit in
-    call .fit-about .ensures
-    ∙ ap (fitted (inputsOf evenTolerance (a .instants .now) (a .positions .now) (a .observer) (a .f0 .0)) (recording (a .samples .now) (a .frequencies .now))) (near-is (a .measured .0) (near-of s (sym (check .ensures) ∙ none .if1 .left)))
-    ∙ unless-none (check .result) (failing-of s) (fitted-of s) (check .ensures) (none .if1 .left)
+    call .fit-about .ensures ∙ unless-none (check .result) (failing-of s) (fit-of s) (check .ensures) (none .if1 .left)
 
 pub fit-satellite-spec : {M : Type 1} → statement M
 fit-satellite-spec =

@@ -8,15 +8,15 @@ use lib.IntN.{ℤ}
 use lib.ListN.{length, take, length-map}
 use lib.Ieee.{Float, ofBits}
 use Rattle.common.specs.Outcome.{answered, outcome, area, written}
-use Rattle.checks.proofs.Passed.{pass-table, pass-samples, pass-areas, means-pass}
-use Rattle.checks.specs.Passed.{Samples}
+use Rattle.checks.proofs.Checked.{pass-table, pass-samples, pass-areas, means-pass}
+use Rattle.checks.specs.Checked.{Samples}
 use Rattle.common.proofs.Outcomes.{unless-refused, unless-none, area-refused}
-use Rattle.samples.specs.Means.{Sample, recording, means, instants, frequencies, meansRefusal, countOf}
+use Rattle.samples.specs.Means.{Sample, recording, means, instants, frequencies, downsampleRefusal, downsampledIn}
 use Rattle.samples.proofs.Seconds.{few-means}
 use Rattle.samples.proofs.Recordings.{record-length}
 use Rattle.orbit.specs.Window.{evenTolerance}
-use Rattle.orbit.specs.Fit.{fitted}
-use Rattle.orbit.specs.Residuals.{Inputs, inputsOf}
+use Rattle.orbit.specs.Fit.{fitOf}
+use Rattle.orbit.specs.Residuals.{Inputs, settingsOf, inputsOf}
 use Rattle.orbit.specs.Passes.{measuredBy, measuredOf, passOutcome, passRefusal}
 use Rattle.orbit.proofs.Trials.{length-front}
 use Rattle.orbit.proofs.Middles.{by-parts, means-sampled, front, same-count, not-refused}
@@ -25,7 +25,7 @@ use Rattle.orbit.proofs.passes.pass.Statement.{statement}
 use Rattle.orbit.proofs.passes.pass.Tie as tie
 
 abbrev inputs-of : tie.Start → Inputs
-inputs-of s = inputsOf evenTolerance (s .args .instants .now) (s .args .positions .now) (s .args .observer) (s .args .f0 .0)
+inputs-of s = let a = s .args in inputsOf (a .instants .now) (a .positions .now) (settingsOf (a .observer) (a .f0) evenTolerance)
 
 abbrev refusal-of : tie.Start → ℕ
 refusal-of s = passRefusal (inputs-of s) (s .args .samples .now) (s .args .frequencies .now) (s .args .mean-instants .now) (s .args .mean-frequencies .now)
@@ -37,7 +37,7 @@ abbrev means-of : tie.Start → List Sample
 means-of s = means (samples-of s)
 
 abbrev start-of : tie.After-downsample-data → tie.Start
-start-of c = c .before .before .before .before .before .before .before .before .before .before
+start-of c = let check = c .before .before .before .before in check .before .before .before .before .before .before
 
 -- no check failed
 none-failed : (c : tie.After-downsample-data) → refusal-of (start-of c) ≡ 0
@@ -46,20 +46,20 @@ none-failed c = let none = c .before .before .before in sym (none .before .refus
 passed : (c : tie.After-downsample-data) → let a = start-of c .args in Samples (a .samples .now) (a .frequencies .now)
 passed c =
     let a = start-of c .args in
-    pass-samples (a .instants .now) (a .positions .now) (a .samples .now) (a .frequencies .now) (a .observer .x .0) (a .observer .y .0) (a .observer .z .0) (a .f0 .0) (a .mean-instants .now) (a .mean-frequencies .now) (none-failed c)
+    pass-samples (a .instants .now) (a .positions .now) (a .samples .now) (a .frequencies .now) (a .observer) (a .f0) (a .mean-instants .now) (a .mean-frequencies .now) (none-failed c)
 
 room : (c : tie.After-downsample-data) → let a = start-of c .args in (length (a .samples .now) ≤ length (a .mean-instants .now)) × (length (a .samples .now) ≤ length (a .mean-frequencies .now))
 room c =
     let a = start-of c .args in
-    pass-areas (a .instants .now) (a .positions .now) (a .samples .now) (a .frequencies .now) (a .observer .x .0) (a .observer .y .0) (a .observer .z .0) (a .f0 .0) (a .mean-instants .now) (a .mean-frequencies .now) (none-failed c)
+    pass-areas (a .instants .now) (a .positions .now) (a .samples .now) (a .frequencies .now) (a .observer) (a .f0) (a .mean-instants .now) (a .mean-frequencies .now) (none-failed c)
 
-no-refusal : (c : tie.After-downsample-data) → let a = start-of c .args in meansRefusal (a .samples .now) (a .frequencies .now) (a .mean-instants .now) (a .mean-frequencies .now) ≡ 0
+no-refusal : (c : tie.After-downsample-data) → let a = start-of c .args in downsampleRefusal (a .samples .now) (a .frequencies .now) (a .mean-instants .now) (a .mean-frequencies .now) ≡ 0
 no-refusal c =
     let a = start-of c .args in
     means-pass (a .samples .now) (a .frequencies .now) (passed c) (a .mean-instants .now) (a .mean-frequencies .now) (room c .0) (room c .1)
 
 -- so the count is that of the means, which stand at the front of the areas
-count-is : (c : tie.After-downsample-data) → countOf (c .downsample-data .result) ≡ answered (length (means-of (start-of c)))
+count-is : (c : tie.After-downsample-data) → downsampledIn (c .downsample-data .result) ≡ answered (length (means-of (start-of c)))
 count-is c = c .downsample-data .ensures .0 ∙ ap (λ (n : ℕ). outcome n (length (means-of (start-of c)))) (no-refusal c)
 
 abbrev instant-area : tie.After-downsample-data → List ℤ
@@ -95,11 +95,11 @@ module _ (c : tie.After-downsample-data) (n : ℕ) (is : n ≡ length (means-of 
   front-sampled : Samples (take n (instant-area c)) (take n (frequency-area c))
   front-sampled = subst (λ (l : List ℤ). Samples l (take n (frequency-area c))) (sym instants-front) (subst (Samples (instants (means-of (start-of c)))) (sym frequencies-front) (means-sampled (start-of c .args .samples .now) (start-of c .args .frequencies .now) (passed c)))
 
-  front-fitted : (i : Inputs) → fitted i (recording (take n (instant-area c)) (take n (frequency-area c))) (measuredBy (take n (instant-area c)) (take n (frequency-area c))) ≡ passOutcome i (samples-of (start-of c))
+  front-fitted : (i : Inputs) → fitOf i (recording (take n (instant-area c)) (take n (frequency-area c))) (measuredBy (take n (instant-area c)) (take n (frequency-area c)) .instant .0) ≡ passOutcome i (samples-of (start-of c))
   front-fitted i =
       let M = means-of (start-of c) in
-      ap₂ (λ (t : List ℤ) (f : List Float). fitted i (recording t f) (measuredBy t f)) instants-front frequencies-front
-      ∙ ap (λ (l : List Sample). fitted i l (measuredOf M)) (by-parts M)
+      ap₂ (λ (t : List ℤ) (f : List Float). fitOf i (recording t f) (measuredBy t f .instant .0)) instants-front frequencies-front
+      ∙ ap (λ (l : List Sample). fitOf i l (measuredOf M .instant .0)) (by-parts M)
 
 refuse-pass-requires : tie.Need-refuse-pass-requires
 refuse-pass-requires c κs = search needs
@@ -132,7 +132,7 @@ abbrev sampled-of : tie.After-means → tie.After-downsample-data
 sampled-of c = c .before .before .before .before .before
 
 told-is : (c : tie.After-means) → c .means .given .0 .0 ≡ length (means-of (start-of (sampled-of c)))
-told-is c = same-count (c .means .given .0 .0) (length (means-of (start-of (sampled-of c)))) (sym (ap countOf (c .means .given .1)) ∙ count-is (sampled-of c))
+told-is c = same-count (c .means .given .0 .0) (length (means-of (start-of (sampled-of c)))) (sym (ap downsampledIn (c .means .given .1)) ∙ count-is (sampled-of c))
 
 -- there is room for them
 in-instants : (c : tie.After-means) → c .means .given .0 .0 ≤ length (instant-area (sampled-of c))
@@ -158,7 +158,7 @@ fit-means-requires c κs =
     let means = c .before .before .before in
     let at = sampled-of means in
     let a = start-of at .args in
-    ((pass-table (a .instants .now) (a .positions .now) (a .samples .now) (a .frequencies .now) (a .observer .x .0) (a .observer .y .0) (a .observer .z .0) (a .f0 .0) (a .mean-instants .now) (a .mean-frequencies .now) (none-failed at)), front-sampled at (means .means .given .0 .0) (told-is means))
+    ((pass-table (a .instants .now) (a .positions .now) (a .samples .now) (a .frequencies .now) (a .observer) (a .f0) (a .mean-instants .now) (a .mean-frequencies .now) (none-failed at)), front-sampled at (means .means .given .0 .0) (told-is means))
 
 enum-known-means-2 : tie.Need-enum-known-means-2
 enum-known-means-2 c = search needs
@@ -189,7 +189,7 @@ returns-3 : tie.Need-returns-3
 returns-3 c =
     let means = c .before in
     let at = means .before .before .before .before .before in
-    absurd (not-refused (means .means2 .given .0 .0) (length (means-of (start-of at))) (sym (ap countOf (means .means2 .given .1)) ∙ count-is at))
+    absurd (not-refused (means .means2 .given .0 .0) (length (means-of (start-of at))) (sym (ap downsampledIn (means .means2 .given .1)) ∙ count-is at))
 
 pub pass-spec : {M : Type 1} → statement M
 pass-spec =

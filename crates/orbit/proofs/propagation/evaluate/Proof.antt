@@ -1,12 +1,8 @@
 -- A refused instant gives its number, any other its motion. Assumes nothing.
-use mathlib.Core.Path.{sym, ap, _∙_}
-use lib.IntN.{ℤ}
-use Rattle.common.specs.Outcome.{answered}
+use mathlib.Core.Path.{_∙_}
 use Rattle.checks.specs.Entries.{firstFailing, evaluationChecks}
-use Rattle.checks.proofs.Passed.{evaluation-near}
 use Rattle.common.proofs.Outcomes.{outcome-refused, outcome-answered}
 use Rattle.orbit.specs.Propagation.{motionAt}
-use Rattle.orbit.proofs.Offsets.{near-is}
 use borrow.Author.Needs.{needs}
 use Rattle.orbit.proofs.propagation.evaluate.Statement.{statement}
 use Rattle.orbit.proofs.propagation.evaluate.Tie as tie
@@ -25,13 +21,11 @@ motion-at-requires c κs = search needs
 
 returns-2 : tie.Need-returns-2
 returns-2 c =
-    let a = c .before .before .before .before .args in
+    let none = c .before in
+    let a = none .before .before .args in
     let t = a .instant .0 in
-    let call = c .before .before .before .refuse-evaluation in
-    let none = c .before .before .if1 .left in
-    c .motion-at .ensures
-    ∙ ap (λ (z : ℤ). answered (motionAt (a .orbit) z)) (near-is t (evaluation-near t (sym (call .ensures) ∙ none)))
-    ∙ outcome-answered (call .result) (firstFailing (evaluationChecks t)) (motionAt (a .orbit) t) (call .ensures) none
+    let call = none .before .refuse-evaluation in
+    c .motion-at .ensures ∙ outcome-answered (call .result) (firstFailing (evaluationChecks t)) (motionAt (a .orbit) t) (call .ensures) (none .if1 .left)
 
 pub evaluate-spec : {M : Type 1} → statement M
 evaluate-spec =

@@ -4,26 +4,34 @@ use lib.IntN.{ℤ, pos, _-ℤ_, _*ℤ_}
 use mir.Syntax.{w64}
 use mir.Val.{SFits}
 use mir.ValLaws.{toZ-ofZ}
-use Rattle.orbit.proofs.Offsets.{back}
-use Rattle.orbit.proofs.Shifts.{thousand-fits, moved-fits}
+use Rattle.common.specs.Time.{microsecond}
+use Rattle.orbit.proofs.Offsets.{back, near-is}
+use Rattle.orbit.proofs.Shifts.{micros-fit, moved-fits}
 use Rattle.orbit.proofs.residuals.moved_earlier.Statement.{statement}
 use Rattle.orbit.proofs.residuals.moved_earlier.Tie as tie
 
+-- what is to be worked out
+abbrev earlier : tie.Start → ℤ
+earlier s = s .args .t .0 -ℤ s .args .micros *ℤ pos microsecond
+
+earlier-fits : (s : tie.Start) → SFits w64 (earlier s)
+earlier-fits s = moved-fits (s .args .t .0) (s .args .micros) (s .pre .0) (s .pre .1)
+
 -- the product and the difference as the machine has them
-product : (c : tie.Start) → back (c .args .micros) *ℤ pos 1000 ≡ c .args .micros *ℤ pos 1000
-product c = ap (λ (z : ℤ). z *ℤ pos 1000) (toZ-ofZ w64 (c .args .micros) (c .fits .micros))
+product : (s : tie.Start) → back (s .args .micros) *ℤ pos microsecond ≡ s .args .micros *ℤ pos microsecond
+product s = ap (λ (z : ℤ). z *ℤ pos microsecond) (toZ-ofZ w64 (s .args .micros) (s .fits .micros))
 
-difference : (c : tie.Start) → back (c .args .t) -ℤ back (back (c .args .micros) *ℤ pos 1000) ≡ c .args .t -ℤ c .args .micros *ℤ pos 1000
-difference c = ap₂ _-ℤ_ (toZ-ofZ w64 (c .args .t) (c .fits .t)) (ap back (product c) ∙ toZ-ofZ w64 (c .args .micros *ℤ pos 1000) (thousand-fits (c .args .micros) (c .pre .1)))
+difference : (s : tie.Start) → back (s .args .t .0) -ℤ back (back (s .args .micros) *ℤ pos microsecond) ≡ earlier s
+difference s = ap₂ _-ℤ_ (near-is (s .args .t .0) (s .pre .0)) (ap back (product s) ∙ toZ-ofZ w64 (s .args .micros *ℤ pos microsecond) (micros-fit (s .args .micros) (s .pre .1)))
 
-mul-result : tie.Need-mul-result
-mul-result c = subst (SFits w64) (sym (product c)) (thousand-fits (c .args .micros) (c .pre .1))
+mul-t3 : tie.Need-mul-t3
+mul-t3 s = subst (SFits w64) (sym (product s)) (micros-fit (s .args .micros) (s .pre .1))
 
-sub-result : tie.Need-sub-result
-sub-result c = subst (SFits w64) (sym (difference c)) (moved-fits (c .args .t) (c .args .micros) (c .pre .0) (c .pre .1))
+sub-t4 : tie.Need-sub-t4
+sub-t4 c = let s = c .before .before in subst (SFits w64) (sym (difference s)) (earlier-fits s)
 
 returns : tie.Need-returns
-returns c = ap back (difference c) ∙ toZ-ofZ w64 (c .args .t -ℤ c .args .micros *ℤ pos 1000) (moved-fits (c .args .t) (c .args .micros) (c .pre .0) (c .pre .1))
+returns c = let s = c .before .before in ap back (difference s) ∙ toZ-ofZ w64 (earlier s) (earlier-fits s)
 
 pub moved-earlier-spec : {M : Type 1} → statement M
-moved-earlier-spec = tie.close (tie.spec mul-result sub-result returns)
+moved-earlier-spec = tie.close (tie.spec mul-t3 sub-t4 returns)

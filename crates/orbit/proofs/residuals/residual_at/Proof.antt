@@ -9,7 +9,7 @@ sqrt-requires c κs = search needs
 
 returns : tie.Need-returns
 unfolding ofBits
-returns c = rw (c .before .before .before .sqrt .ensures)
+returns c = rw (c .before .before .before .before .before .sqrt .ensures)
 
 pub residual-at-spec : {M : Type 1} → statement M
 residual-at-spec = tie.close (tie.spec sqrt-requires returns)

@@ -5,15 +5,16 @@ use native.Mathlib.Omega.{arith}
 use lib.ListN.{take, drop}
 use lib.Ieee.{ofBits, neg}
 use mathlib.Core.List.{map}
-use Rattle.orbit.specs.Residuals.{total, deviation}
+use Rattle.orbit.specs.Residuals.{deviation}
 use Rattle.common.specs.Numbers.{minusZero}
-use Rattle.orbit.proofs.Totals.{mapped-step, mapped-end}
+use Rattle.common.proofs.Sums.{mapped-step, mapped-end}
+use Rattle.common.specs.Sums.{sumFrom}
 use borrow.Author.Needs.{needs}
 use Rattle.orbit.proofs.residuals.squares_of.Statement.{statement}
 use Rattle.orbit.proofs.residuals.squares_of.Tie as tie
 
 abbrev Inv-loop : tie.InvT-loop
-Inv-loop values count mean sum₀ i₀ sum i = (i ≤ count) × (total sum (map (deviation mean) (take (count - i) (drop i values))) ≡ total minusZero (map (deviation mean) (take count values)))
+Inv-loop values count mean sum₀ i₀ sum i = (i ≤ count) × (sumFrom sum (map (deviation mean) (take (count - i) (drop i values))) ≡ sumFrom minusZero (map (deviation mean) (take count values)))
 
 abbrev μ-loop : tie.MeasureT-loop
 μ-loop values count mean sum₀ i₀ sum i = count - i

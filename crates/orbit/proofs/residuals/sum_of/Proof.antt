@@ -4,15 +4,15 @@ use Prim.Native.Nat.{_-_, _≤_}
 use native.Mathlib.Omega.{arith}
 use lib.ListN.{take, drop}
 use lib.Ieee.{ofBits, neg}
-use Rattle.orbit.specs.Residuals.{total}
 use Rattle.common.specs.Numbers.{minusZero}
-use Rattle.orbit.proofs.Totals.{total-step, total-end}
+use Rattle.common.proofs.Sums.{sum-step, sum-end}
+use Rattle.common.specs.Sums.{sumFrom}
 use borrow.Author.Needs.{needs}
 use Rattle.orbit.proofs.residuals.sum_of.Statement.{statement}
 use Rattle.orbit.proofs.residuals.sum_of.Tie as tie
 
 abbrev Inv-loop : tie.InvT-loop
-Inv-loop values count sum₀ i₀ sum i = (i ≤ count) × (total sum (take (count - i) (drop i values)) ≡ total minusZero (take count values))
+Inv-loop values count sum₀ i₀ sum i = (i ≤ count) × (sumFrom sum (take (count - i) (drop i values)) ≡ sumFrom minusZero (take count values))
 
 abbrev μ-loop : tie.MeasureT-loop
 μ-loop values count sum₀ i₀ sum i = count - i
@@ -40,13 +40,13 @@ loop-again : tie.Need-loop-again Inv-loop μ-loop
 loop-again c =
     let at = c .before .before .loop in
     let s = c .before .before .before in
-    (search needs, total-step (at .sum) (s .args .values .now) (at .i) (s .args .count) (omega arith) (s .pre) ∙ at .inv .1)
+    (search needs, sum-step (at .sum) (s .args .values .now) (at .i) (s .args .count) (omega arith) (s .pre) ∙ at .inv .1)
 
 returns : tie.Need-returns Inv-loop μ-loop
 returns c =
     let at = c .before .loop in
     let a = c .before .before .args in
-    sym (total-end (at .sum) (a .values .now) (at .i) (a .count) (omega arith)) ∙ at .inv .1
+    sym (sum-end (at .sum) (a .values .now) (at .i) (a .count) (omega arith)) ∙ at .inv .1
 
 pub sum-of-spec : {M : Type 1} → statement M
 sum-of-spec =

@@ -1,7 +1,8 @@
 -- The step is converted as the count it is. Assumes nothing.
 use mathlib.Core.Path.{ap, _∙_}
 use native.Mathlib.Omega.{arith}
-use lib.Ieee.{Float, binary64, add, mul}
+use lib.Ieee.{Float}
+use Rattle.common.specs.Rounded.{_⊕_, _⊗_}
 use mir.Syntax.{w64}
 use mir.ValLaws.{toZ-pos}
 use Rattle.float.specs.Conversions.{nearestOf}
@@ -17,8 +18,9 @@ nearest-requires c κs = search needs
 
 returns : tie.Need-returns
 returns c =
-    let s = c .before in
-    ap (λ (x : Float). add binary64 (s .args .start) (mul binary64 x (s .args .increment))) (c .nearest .ensures ∙ ap nearestOf (toZ-pos w64 (s .args .step) (omega (arith, s .pre))))
+    let s = c .before .before .before in
+    let stage = s .args .stage in
+    ap (λ (x : Float). stage .start .0 ⊕ x ⊗ stage .increment .0) (c .before .before .nearest .ensures ∙ ap nearestOf (toZ-pos w64 (s .args .step) (omega (arith, s .pre))))
 
 pub shift-at-spec : {M : Type 1} → statement M
 shift-at-spec = tie.close (tie.spec cast-nearest nearest-requires returns)

@@ -6,16 +6,18 @@ use Prim.Native.Nat.{_/_, _≤_, _<_}
 use native.Mathlib.Omega.{arith}
 use lib.IntN.{pos}
 use lib.ListN.{length, take, length-map}
-use lib.Ieee.{Float, binary64, div}
+use lib.Ieee.{Float, binary64}
+use Rattle.common.specs.Rounded.{_⊘_}
 use mir.Syntax.{w64}
 use mir.ValLaws.{toZ-pos}
 use Rattle.float.specs.Root.{root}
 use Rattle.float.specs.Conversions.{nearestOf}
 use Rattle.samples.specs.Means.{Sample, recording}
-use Rattle.orbit.specs.Residuals.{Residual, inputsOf, residualOf, total, meanOver, deviation}
+use Rattle.orbit.specs.Residuals.{Residual, inputsOf, residualOf, meanOver, deviation}
 use Rattle.common.specs.Numbers.{minusZero}
 use Rattle.samples.proofs.Recordings.{record-length}
 use Rattle.orbit.proofs.Trials.{mean-is, length-front, too-few, won, lost}
+use Rattle.common.specs.Sums.{sumFrom}
 use borrow.Author.Needs.{needs}
 use Rattle.orbit.proofs.stages.try_shift.Statement.{statement}
 use Rattle.orbit.proofs.stages.try_shift.Tie as tie
@@ -27,7 +29,7 @@ same-length : tie.Need-same-length
 same-length c = search needs
 
 abbrev residual-of : tie.Start → Float → Sample → Residual
-residual-of s = residualOf (inputsOf (s .args .tolerance) (s .args .instants .now) (s .args .positions .now) (s .args .observer) (s .args .f0))
+residual-of s = let a = s .args in residualOf (inputsOf (a .instants .now) (a .positions .now) (a .settings))
 
 abbrev samples-of : tie.Start → List Sample
 samples-of s = recording (s .args .samples .now) (s .args .frequencies .now)
@@ -35,24 +37,27 @@ samples-of s = recording (s .args .samples .now) (s .args .frequencies .now)
 abbrev start-of : tie.After-collect-residuals → tie.Start
 start-of c = c .before .before .before .before .before
 
--- the residuals, as they stand at the front of the values
+-- the values afterwards, and the residuals, as they stand at their front
+abbrev area-of : tie.After-collect-residuals → List Float
+area-of c = c .collect-residuals .last .1 .1 .1 .1 .1 .1 .0
+
 abbrev values-of : tie.After-collect-residuals → List Float
-values-of c = take (c .collect-residuals .result) (c .collect-residuals .last .1 .1 .1 .1 .1 .1 .1 .1 .0)
+values-of c = take (c .collect-residuals .result) (area-of c)
 
 length-samples : (s : tie.Start) → length (samples-of s) ≡ length (s .args .samples .now)
 length-samples s = record-length (s .args .samples .now) (s .args .frequencies .now) (s .pre .0 .sampled .same)
 
-long-enough : (c : tie.After-collect-residuals) → c .collect-residuals .result ≤ length (c .collect-residuals .last .1 .1 .1 .1 .1 .1 .1 .1 .0)
-long-enough c = omega (arith, c .collect-residuals .ensures .0, c .collect-residuals .kept .1 .1 .1 .1 .1 .1 .1 .1 .0, start-of c .pre .0 .room)
+long-enough : (c : tie.After-collect-residuals) → c .collect-residuals .result ≤ length (area-of c)
+long-enough c = omega (arith, c .collect-residuals .ensures .0, c .collect-residuals .kept .1 .1 .1 .1 .1 .1 .0, start-of c .pre .0 .room)
 
 length-values : (c : tie.After-collect-residuals) → length (values-of c) ≡ c .collect-residuals .result
-length-values c = length-front (c .collect-residuals .last .1 .1 .1 .1 .1 .1 .1 .1 .0) (c .collect-residuals .result) (long-enough c)
+length-values c = length-front (area-of c) (c .collect-residuals .result) (long-enough c)
 
 returns : tie.Need-returns
 returns c =
     let at = c .before .before .before in
     let s = start-of at in
-    too-few (residual-of s) (samples-of s) (s .args .shift) (values-of at) (at .collect-residuals .ensures .1) (s .args .best) (omega (arith, length-values at, length-samples s, c .if1 .taken))
+    too-few (residual-of s) (samples-of s) (s .args .shift .0) (values-of at) (at .collect-residuals .ensures .1) (s .args .best) (omega (arith, length-values at, length-samples s, c .if1 .taken))
 
 cast-nearest : tie.Need-cast-nearest
 cast-nearest c = search needs
@@ -78,22 +83,27 @@ count-is c =
     let at = c .before .before .before .before in
     c .nearest .ensures ∙ ap nearestOf (toZ-pos w64 (at .collect-residuals .result) (omega (arith, at .collect-residuals .ensures .0, start-of at .pre .0 .sampled .few)))
 
-offset-is : (c : tie.After-sum-of) → div binary64 (c .sum-of .result) (c .before .before .nearest .result) ≡ meanOver (values-of (c .before .before .before .before .before .before))
-offset-is c =
-    let at = c .before .before .before .before .before .before in
-    ap (div binary64 (c .sum-of .result)) (count-is (c .before .before)) ∙ mean-is (values-of at) (at .collect-residuals .result) (c .sum-of .result) (length-values at) (c .sum-of .ensures)
+-- the call that collected the residuals, from the place where their sum is known
+abbrev collected : tie.After-sum-of → tie.After-collect-residuals
+collected c = c .before .before .before .before .before .before
 
-rmse-is : (c : tie.After-sqrt) → (let ys = values-of (c .before .before .before .before .before .before .before .before .before) in c .sqrt .result ≡ root binary64 (meanOver (map (deviation (meanOver ys)) ys)))
+offset-is : (c : tie.After-sum-of) → c .sum-of .result ⊘ c .before .before .nearest .result ≡ meanOver (values-of (collected c))
+offset-is c =
+    let at = collected c in
+    ap (λ (x : Float). c .sum-of .result ⊘ x) (count-is (c .before .before)) ∙ mean-is (values-of at) (at .collect-residuals .result) (c .sum-of .result) (length-values at) (c .sum-of .ensures)
+
+rmse-is : (c : tie.After-sqrt) → (let ys = values-of (collected (c .before .before .before)) in c .sqrt .result ≡ root binary64 (meanOver (map (deviation (meanOver ys)) ys)))
 rmse-is c =
-    let at = c .before .before .before .before .before .before .before .before .before in
+    let squares = c .before .squares-of in
     let sum = c .before .before .before in
+    let at = collected sum in
     let ys = values-of at in
     let m = meanOver ys in
-    let e : c .before .squares-of .result ≡ total minusZero (map (deviation m) ys) = c .before .squares-of .ensures ∙ ap (λ (x : Float). total minusZero (map (deviation x) ys)) (offset-is sum) in
+    let e : squares .result ≡ sumFrom minusZero (map (deviation m) ys) = squares .ensures ∙ ap (λ (x : Float). sumFrom minusZero (map (deviation x) ys)) (offset-is sum) in
     c .sqrt .ensures
     ∙ ap (root binary64)
-    (ap (div binary64 (c .before .squares-of .result)) (count-is (sum .before .before))
-    ∙ mean-is (map (deviation m) ys) (at .collect-residuals .result) (c .before .squares-of .result) (length-map ys (deviation m) ∙ length-values at) e)
+    (ap (λ (x : Float). squares .result ⊘ x) (count-is (sum .before .before))
+    ∙ mean-is (map (deviation m) ys) (at .collect-residuals .result) (squares .result) (length-map ys (deviation m) ∙ length-values at) e)
 
 enough-of : (c : tie.Else1) → (let at = c .before .before .before in length (samples-of (start-of at)) / 2 < length (values-of at))
 enough-of c =
@@ -103,18 +113,22 @@ enough-of c =
 
 returns-2 : tie.Need-returns-2
 returns-2 c =
-    let at = c .before .before .before .before .before .before .before .before .before .before .before in
+    let rooted = c .before .before in
+    let sum = rooted .before .before .before in
+    let at = collected sum in
     let s = start-of at in
-    won (residual-of s) (samples-of s) (s .args .shift) (values-of at) (at .collect-residuals .ensures .1) (s .args .best) _ _ (enough-of (c .before .before .before .before .before .before .before .before)) (offset-is (c .before .before .before .before .before)) (rmse-is (c .before .before)) (c .if2 .taken)
+    won (residual-of s) (samples-of s) (s .args .shift .0) (values-of at) (at .collect-residuals .ensures .1) (s .args .best) _ _ (enough-of (sum .before .before .before)) (offset-is sum) (rmse-is rooted) (c .if2 .taken)
 
 same-length-3 : tie.Need-same-length-3
 same-length-3 c = search needs
 
 returns-3 : tie.Need-returns-3
 returns-3 c =
-    let at = c .before .before .before .before .before .before .before .before .before .before .before in
+    let rooted = c .before .before in
+    let sum = rooted .before .before .before in
+    let at = collected sum in
     let s = start-of at in
-    lost (residual-of s) (samples-of s) (s .args .shift) (values-of at) (at .collect-residuals .ensures .1) (s .args .best) _ _ (enough-of (c .before .before .before .before .before .before .before .before)) (offset-is (c .before .before .before .before .before)) (rmse-is (c .before .before)) (c .if2 .left)
+    lost (residual-of s) (samples-of s) (s .args .shift .0) (values-of at) (at .collect-residuals .ensures .1) (s .args .best) _ _ (enough-of (sum .before .before .before)) (offset-is sum) (rmse-is rooted) (c .if2 .left)
 
 pub try-shift-spec : {M : Type 1} → statement M
 try-shift-spec =

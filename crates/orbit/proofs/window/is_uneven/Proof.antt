@@ -2,17 +2,18 @@
 use mathlib.Core.Path.{_≡_, refl, sym, ap, _∙_}
 use Prim.Native.Nat.{_-_, _≤_}
 use native.Mathlib.Omega.{arith}
-use lib.ListN.{length, getD}
-use lib.Ieee.{nan, binary64, sub, div, lt, ofBits}
-use Rattle.orbit.specs.Window.{wideFrom, uneven}
+use lib.ListN.{length}
+use lib.Ieee.{lt, ofBits}
+use Rattle.orbit.specs.Window.{firstTime, lastTime, uneven}
 use Rattle.common.specs.Numbers.{nine}
-use Rattle.orbit.proofs.Models.{wide-found, wide-passed, wide-end}
+use Rattle.orbit.proofs.Models.{wideFrom, wide-found, wide-passed, wide-end}
+use Rattle.common.specs.Rounded.{_⊖_, _⊘_}
 use borrow.Author.Needs.{needs}
 use Rattle.orbit.proofs.window.is_uneven.Statement.{statement}
 use Rattle.orbit.proofs.window.is_uneven.Tie as tie
 
 abbrev Inv-loop : tie.InvT-loop
-Inv-loop tolerance t gap k₀ k = (k ≤ 9) × (length t ≡ 10) × (gap ≡ div binary64 (sub binary64 (getD t 9 nan) (getD t 0 nan)) nine) × (wideFrom (9 - k) k tolerance t ≡ uneven tolerance t)
+Inv-loop tolerance t gap k₀ k = (k ≤ 9) × (length t ≡ 10) × (gap ≡ (lastTime t ⊖ firstTime t) ⊘ nine) × (wideFrom k tolerance t ≡ uneven tolerance t)
 
 abbrev μ-loop : tie.MeasureT-loop
 μ-loop tolerance t gap k₀ k = 9 - k
@@ -48,9 +49,9 @@ magnitude-requires c κs = search needs
 returns : tie.Need-returns Inv-loop μ-loop
 unfolding ofBits
 returns c =
-    let at = c .before .before .before .loop in
-    let args = c .before .before .before .before .args in
-    sym (wide-found (args .tolerance) (args .t1) (at .k) (omega arith) (ap (lt (args .tolerance)) (sym (c .before .magnitude .ensures)) ∙ c .if1 .taken)) ∙ at .inv .3
+    let at = c .before .before .before .before .loop in
+    let args = c .before .before .before .before .before .args in
+    sym (wide-found (args .tolerance) (args .t1) (at .k) (omega arith) (ap (lt (args .tolerance .0)) (sym (c .before .before .magnitude .ensures)) ∙ c .if1 .taken)) ∙ at .inv .3
 
 add-k : tie.Need-add-k Inv-loop μ-loop
 add-k c = search needs
@@ -61,9 +62,9 @@ loop-less c = search needs
 loop-again : tie.Need-loop-again Inv-loop μ-loop
 unfolding ofBits
 loop-again c =
-    let at = c .before .before .before .loop in
-    let args = c .before .before .before .before .args in
-    (search needs, at .inv .1, refl, wide-passed (args .tolerance) (args .t1) (at .k) (omega arith) (ap (lt (args .tolerance)) (sym (c .before .magnitude .ensures)) ∙ c .if1 .left) ∙ at .inv .3)
+    let at = c .before .before .before .before .loop in
+    let args = c .before .before .before .before .before .args in
+    (search needs, at .inv .1, refl, wide-passed (args .tolerance) (args .t1) (at .k) (omega arith) (ap (lt (args .tolerance .0)) (sym (c .before .before .magnitude .ensures)) ∙ c .if1 .left) ∙ at .inv .3)
 
 returns-2 : tie.Need-returns-2 Inv-loop μ-loop
 returns-2 c =

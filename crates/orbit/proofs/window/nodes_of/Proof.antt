@@ -22,17 +22,17 @@ abbrev μ-loop : tie.MeasureT-loop
 loop-holds : tie.Need-loop-holds Inv-loop μ-loop
 loop-holds c = (search needs, search needs, below-none _)
 
-array-read-tau-of : tie.Need-array-read-tau-of Inv-loop μ-loop
-array-read-tau-of c = search needs
+array-read-t11 : tie.Need-array-read-t11 Inv-loop μ-loop
+array-read-t11 c = search needs
 
-array-read-tau-of-2 : tie.Need-array-read-tau-of-2 Inv-loop μ-loop
-array-read-tau-of-2 c = search needs
+array-read-t15 : tie.Need-array-read-t15 Inv-loop μ-loop
+array-read-t15 c = search needs
 
-mul-tau-of : tie.Need-mul-tau-of Inv-loop μ-loop
-mul-tau-of c = search needs
+mul-t17 : tie.Need-mul-t17 Inv-loop μ-loop
+mul-t17 c = search needs
 
-array-read-tau-of-3 : tie.Need-array-read-tau-of-3 Inv-loop μ-loop
-array-read-tau-of-3 c = search needs
+array-read-t20 : tie.Need-array-read-t20 Inv-loop μ-loop
+array-read-t20 c = search needs
 
 tau-of-requires : tie.Need-tau-of-requires Inv-loop μ-loop
 tau-of-requires c κs = search needs
@@ -72,10 +72,10 @@ nodes-of-spec =
     Inv-loop
     μ-loop
     loop-holds
-    array-read-tau-of
-    array-read-tau-of-2
-    mul-tau-of
-    array-read-tau-of-3
+    array-read-t11
+    array-read-t15
+    mul-t17
+    array-read-t20
     tau-of-requires
     values-at-requires
     mul-rows

@@ -23,14 +23,14 @@ abbrev μ-loop : tie.MeasureT-loop
 loop-holds : tie.Need-loop-holds Inv-loop μ-loop
 loop-holds c = (search needs, search needs, below-none _)
 
-add-seconds-of : tie.Need-add-seconds-of Inv-loop μ-loop
-add-seconds-of c = search needs
+add-t7 : tie.Need-add-t7 Inv-loop μ-loop
+add-t7 c = search needs
 
-mul-seconds-of : tie.Need-mul-seconds-of Inv-loop μ-loop
-mul-seconds-of c = search needs
+mul-t8 : tie.Need-mul-t8 Inv-loop μ-loop
+mul-t8 c = search needs
 
-shared-slice-copy-out-seconds-of : tie.Need-shared-slice-copy-out-seconds-of Inv-loop μ-loop
-shared-slice-copy-out-seconds-of c = search needs
+shared-slice-copy-out-t10 : tie.Need-shared-slice-copy-out-t10 Inv-loop μ-loop
+shared-slice-copy-out-t10 c = search needs
 
 seconds-of-requires : tie.Need-seconds-of-requires Inv-loop μ-loop
 seconds-of-requires c κs = search needs
@@ -52,7 +52,7 @@ loop-again c =
     let at = c .before .before .before .loop in
     let args = c .before .before .before .before .args in
     let x = getD (args .instants .now) (args .start + at .k) (pos 0) in
-    let e = c .seconds-of .ensures ∙ ap secondsOf (toZ-ofZ w64 x (record { sfits = c .before .seconds-of-arg .given })) in
+    let e = c .seconds-of .ensures ∙ ap secondsOf (toZ-ofZ w64 x (record { sfits = c .before .t10 .given })) in
     (search needs, simp length-set (search needs), filled-more (λ n. secondsOf (getD (args .instants .now) (args .start + n) (pos 0))) nan (at .t) (at .k) _ (omega arith) e (at .inv .2))
 
 returns : tie.Need-returns Inv-loop μ-loop
@@ -68,9 +68,9 @@ seconds-in-spec =
     Inv-loop
     μ-loop
     loop-holds
-    add-seconds-of
-    mul-seconds-of
-    shared-slice-copy-out-seconds-of
+    add-t7
+    mul-t8
+    shared-slice-copy-out-t10
     seconds-of-requires
     mul-t
     array-write-t

@@ -28,9 +28,12 @@ coefficients-through-requires c κs = search needs
 refused-model-requires : tie.Need-refused-model-requires
 refused-model-requires c κs = search needs
 
-coefficients-are : (c : tie.After-coefficients-through) → (let a = c .before .before .before .before .before .before .args in c .coefficients-through .result ≡ through (inverted (nodeMatrix (a .t3))) (a .positions .now) (a .start))
+abbrev start-of : tie.After-coefficients-through → tie.Start
+start-of c = c .before .before .before .before .before .before
+
+coefficients-are : (c : tie.After-coefficients-through) → (let a = start-of c .args in c .coefficients-through .result ≡ through (inverted (nodeMatrix (a .t3))) (a .positions .now) (a .start))
 coefficients-are c =
-    let a = c .before .before .before .before .before .before .args in
+    let a = start-of c .args in
     let x = c .before .before .before .axis-of in
     let y = c .before .before .axis-of2 in
     let z = c .before .axis-of3 in
@@ -40,8 +43,8 @@ coefficients-are c =
 
 returns : tie.Need-returns
 returns c =
-    let a = c .before .before .before .before .before .before .before .before .args in
     let call = c .before .before in
+    let a = start-of call .args in
     c .refused-model .ensures ∙ refused-is (inverted (nodeMatrix (a .t3))) (a .t3) (a .positions .now) (a .start) (call .coefficients-through .result) (coefficients-are call) (c .before .if1 .taken)
 
 array-read-t18 : tie.Need-array-read-t18
@@ -52,8 +55,8 @@ array-read-t22 c = search needs
 
 returns-2 : tie.Need-returns-2
 returns-2 c =
-    let a = c .before .before .before .before .before .before .before .before .before .before .args in
     let call = c .before .before .before .before in
+    let a = start-of call .args in
     through-is (inverted (nodeMatrix (a .t3))) (a .t3) (a .positions .now) (a .start) (call .coefficients-through .result) (inverted-told (nodeMatrix (a .t3))) (coefficients-are call) (c .before .before .before .if1 .left)
 
 pub uneven-model-spec : {M : Type 1} → statement M

@@ -2,9 +2,7 @@
 use mathlib.Core.Path.{ap, _∙_}
 use Prim.Native.Nat.{ℕ}
 use lib.ListN.{length}
-use mir.Syntax.{w64}
-use mir.ValLaws.{toZ-ofZ}
-use Rattle.orbit.specs.Window.{startOf, lastBefore}
+use Rattle.orbit.specs.Window.{startOf}
 use borrow.Author.Needs.{needs}
 use Rattle.orbit.proofs.window.window_start.Statement.{statement}
 use Rattle.orbit.proofs.window.window_start.Tie as tie
@@ -17,9 +15,8 @@ start-of-requires c κs = search needs
 
 returns : tie.Need-returns
 returns c =
-    let s = c .before .before in
-    let ts = s .args .instants .now in
-    (c .start-of .ensures .0, c .start-of .ensures .1 ∙ ap (λ (k : ℕ). startOf k (length ts)) (c .before .last-before .ensures .1 ∙ ap (lastBefore ts) (toZ-ofZ w64 (s .args .t) (s .fits .t))))
+    let ts = c .before .before .args .instants .now in
+    (c .start-of .ensures .0, c .start-of .ensures .1 ∙ ap (λ (k : ℕ). startOf k (length ts)) (c .before .last-before .ensures .1))
 
 pub window-start-spec : {M : Type 1} → statement M
 window-start-spec = tie.close (tie.spec last-before-requires start-of-requires returns)

@@ -1,9 +1,7 @@
 -- The report that is put into the two areas is that of the fit. Assumes nothing.
-use Rattle.orbit.specs.Window.{evenTolerance}
-use Rattle.orbit.specs.Fit.{satelliteFit, fitIn}
-use Rattle.orbit.specs.Residuals.{inputsOf}
+use Rattle.orbit.specs.Fit.{fitSatellite, fitIn}
 use Rattle.orbit.specs.declared.fit.Report.{Report}
-use Rattle.orbit_abi.specs.Models.{observerOf, reportNumbers}
+use Rattle.orbit_abi.specs.Models.{inputsIn, reportNumbers}
 use Rattle.orbit_abi.proofs.Outcomes.{given-as}
 use borrow.Author.Needs.{needs}
 use Rattle.orbit_abi.proofs.fit_entries.orbit_fit_satellite.Statement.{statement}
@@ -19,8 +17,8 @@ returns : tie.Need-returns
 returns c =
     let call = c .before .before .before in
     let args = call .before .before .before .args in
-    let inputs = inputsOf evenTolerance (args .instants .now) (args .positions .now) (observerOf (args .ox) (args .oy) (args .oz)) (args .f0 .0) in
-    let fit = satelliteFit inputs (args .samples .now) (args .frequencies .now) (args .measured .0) in
+    let inputs = inputsIn (args .instants .now) (args .positions .now) (args .ox) (args .oy) (args .oz) (args .f0) in
+    let fit = fitSatellite inputs (args .samples .now) (args .frequencies .now) (args .measured .0) in
     let found = fitIn (call .fit-satellite .result) in
     let told = c .fitted-into .ensures in
     let here = call .fit-satellite .ensures in

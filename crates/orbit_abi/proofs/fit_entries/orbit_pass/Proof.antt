@@ -1,10 +1,8 @@
 -- The report that is put into the two areas is that of the pass; the areas of the means are as the entry left them. Assumes nothing.
-use Rattle.orbit.specs.Window.{evenTolerance}
 use Rattle.orbit.specs.Fit.{fitIn}
-use Rattle.orbit.specs.Residuals.{inputsOf}
-use Rattle.orbit.specs.Passes.{passReport}
+use Rattle.orbit.specs.Passes.{pass}
 use Rattle.orbit.specs.declared.fit.Report.{Report}
-use Rattle.orbit_abi.specs.Models.{observerOf, reportNumbers}
+use Rattle.orbit_abi.specs.Models.{inputsIn, reportNumbers}
 use Rattle.orbit_abi.proofs.Outcomes.{given-as}
 use borrow.Author.Needs.{needs}
 use Rattle.orbit_abi.proofs.fit_entries.orbit_pass.Statement.{statement}
@@ -26,8 +24,8 @@ returns : tie.Need-returns
 returns c =
     let call = c .before .before .before .before .before .before in
     let args = call .before .before .before .before .before .before .args in
-    let inputs = inputsOf evenTolerance (args .instants .now) (args .positions .now) (observerOf (args .ox) (args .oy) (args .oz)) (args .f0 .0) in
-    let outcome = passReport inputs (args .samples .now) (args .frequencies .now) (args .mean-instants .now) (args .mean-frequencies .now) in
+    let inputs = inputsIn (args .instants .now) (args .positions .now) (args .ox) (args .oy) (args .oz) (args .f0) in
+    let outcome = pass inputs (args .samples .now) (args .frequencies .now) (args .mean-instants .now) (args .mean-frequencies .now) in
     let found = fitIn (call .pass .result) in
     let told = c .fitted-into .ensures in
     let here = call .pass .ensures in

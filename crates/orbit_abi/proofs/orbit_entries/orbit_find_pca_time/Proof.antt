@@ -4,7 +4,7 @@ use lib.IntN.{ℤ}
 use mir.Syntax.{w64}
 use mir.ValLaws.{toZ-ofZ}
 use Rattle.common.specs.Outcome.{Outcome}
-use Rattle.orbit.specs.Closest.{closestIn, closestApproach}
+use Rattle.orbit.specs.Closest.{closestIn, findPcaTime}
 use Rattle.orbit_abi.specs.Models.{observerOf}
 use Rattle.orbit_abi.proofs.Outcomes.{answered-as, refused-as}
 use borrow.Author.Needs.{needs}
@@ -21,7 +21,7 @@ enum-known-closest-2 : tie.Need-enum-known-closest-2
 enum-known-closest-2 c = search needs
 
 abbrev there : tie.Start → Outcome ℤ
-there s = closestApproach (s .args .instants .now) (s .args .positions .now) (observerOf (s .args .ox) (s .args .oy) (s .args .oz)) (s .args .instant .0)
+there s = findPcaTime (s .args .instants .now) (s .args .positions .now) (observerOf (s .args .ox) (s .args .oy) (s .args .oz)) (s .args .instant .0)
 
 returns : tie.Need-returns
 returns c =

@@ -1,6 +1,6 @@
 -- By the entry's number: 0 is the case with a model, whose numbers go into the area, and any other leaves the area. Assumes nothing.
 use Rattle.checks.specs.Entries.{firstFailing, propagationChecks}
-use Rattle.orbit.specs.Window.{evenTolerance, windowStart, windowSeconds, inversionOf, chebyshevModel}
+use Rattle.orbit.specs.Window.{evenTolerance, windowStart, windowSeconds, inversionOf, getChebyshevModel}
 use Rattle.orbit_abi.specs.Models.{modelNumbers}
 use Rattle.orbit.proofs.Models.{inversion-told}
 use Rattle.orbit_abi.proofs.Outcomes.{model-answered, model-refused}
@@ -29,7 +29,7 @@ returns-2 : tie.Need-returns-2
 returns-2 c =
     let call = c .before in
     let args = call .before .before .args in
-    model-refused modelNumbers (args .model .now) (call .get-chebyshev-model .result) (chebyshevModel (args .instants .now) (args .positions .now) (args .instant .0)) (call .get-chebyshev-model .ensures) (c .if1 .left)
+    model-refused modelNumbers (args .model .now) (call .get-chebyshev-model .result) (getChebyshevModel (args .instants .now) (args .positions .now) (args .instant .0)) (call .get-chebyshev-model .ensures) (c .if1 .left)
 
 pub orbit-get-chebyshev-model-spec : {M : Type 1} → statement M
 orbit-get-chebyshev-model-spec =

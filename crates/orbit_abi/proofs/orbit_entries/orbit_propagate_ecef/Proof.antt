@@ -1,5 +1,5 @@
 -- The motion that is put into the area is that of the table. Assumes nothing.
-use Rattle.orbit.specs.Propagation.{motionIn, propagation}
+use Rattle.orbit.specs.Propagation.{motionIn, propagateEcef}
 use Rattle.orbit_abi.specs.Models.{motionNumbers}
 use Rattle.orbit_abi.proofs.Outcomes.{given-as}
 use borrow.Author.Needs.{needs}
@@ -16,7 +16,7 @@ returns : tie.Need-returns
 returns c =
     let call = c .before .before in
     let s = call .before .before in
-    given-as motionNumbers (propagation (s .args .instants .now) (s .args .positions .now) (s .args .instant .0)) (s .args .out .now) (motionIn (call .propagate-ecef .result)) _ _ (c .motion-into .ensures) (call .propagate-ecef .ensures)
+    given-as motionNumbers (propagateEcef (s .args .instants .now) (s .args .positions .now) (s .args .instant .0)) (s .args .out .now) (motionIn (call .propagate-ecef .result)) _ _ (c .motion-into .ensures) (call .propagate-ecef .ensures)
 
 pub orbit-propagate-ecef-spec : {M : Type 1} → statement M
 orbit-propagate-ecef-spec =

@@ -1,7 +1,7 @@
 -- By the entry's answer: the count goes into its area, and a refusal leaves it; the areas of the means are as the entry left them. Assumes nothing.
 use mathlib.Core.Path.{refl, sym, ap, _∙_}
 use Prim.Native.Nat.{ℕ}
-use Rattle.samples.specs.Means.{countOf, meansCount}
+use Rattle.samples.specs.Means.{downsampledIn, downsampleData}
 use Rattle.orbit_abi.proofs.Outcomes.{answered-as, refused-as}
 use borrow.Author.Needs.{needs}
 use Rattle.orbit_abi.proofs.samples_entries.orbit_downsample_data.Statement.{statement}
@@ -28,7 +28,7 @@ returns c =
     let call = called .downsample-data in
     let args = called .before .before .before .before .before .args in
     let told = c .before .means .given in
-    let here = answered-as (λ (n : ℕ). n) (meansCount (args .instants .now) (args .frequencies .now) (args .mean-instants .now) (args .mean-frequencies .now)) (args .count .now) (told .0 .0) _ refl (sym (ap countOf (told .1)) ∙ call .ensures .0) in
+    let here = answered-as (λ (n : ℕ). n) (downsampleData (args .instants .now) (args .frequencies .now) (args .mean-instants .now) (args .mean-frequencies .now)) (args .count .now) (told .0 .0) _ refl (sym (ap downsampledIn (told .1)) ∙ call .ensures .0) in
     (here .0, (here .1, (call .ensures .1 .0, call .ensures .1 .1)))
 
 same-length-3 : tie.Need-same-length-3
@@ -43,7 +43,7 @@ returns-2 c =
     let call = called .downsample-data in
     let args = called .before .before .before .before .before .args in
     let told = c .before .means2 .given in
-    let here = refused-as (λ (n : ℕ). n) (meansCount (args .instants .now) (args .frequencies .now) (args .mean-instants .now) (args .mean-frequencies .now)) (args .count .now) (told .0 .0) (sym (ap countOf (told .1)) ∙ call .ensures .0) in
+    let here = refused-as (λ (n : ℕ). n) (downsampleData (args .instants .now) (args .frequencies .now) (args .mean-instants .now) (args .mean-frequencies .now)) (args .count .now) (told .0 .0) (sym (ap downsampledIn (told .1)) ∙ call .ensures .0) in
     (here .0, (here .1, (call .ensures .1 .0, call .ensures .1 .1)))
 
 pub orbit-downsample-data-spec : {M : Type 1} → statement M

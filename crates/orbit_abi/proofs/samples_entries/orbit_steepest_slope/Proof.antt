@@ -1,7 +1,7 @@
 -- By the entry's answer: a slope goes into the area, and a refusal leaves it. Assumes nothing.
 use mathlib.Core.Path.{refl, sym, ap, _∙_}
 use lib.Ieee.{Float}
-use Rattle.samples.specs.Approach.{slopeIn, steepest}
+use Rattle.samples.specs.Approach.{slopeIn, steepestSlope}
 use Rattle.orbit_abi.proofs.Outcomes.{answered-as, refused-as}
 use borrow.Author.Needs.{needs}
 use Rattle.orbit_abi.proofs.samples_entries.orbit_steepest_slope.Statement.{statement}
@@ -21,14 +21,14 @@ returns c =
     let call = c .before .before .before in
     let args = call .before .before .args in
     let told = c .before .least .given in
-    answered-as (λ (x : Float). x) (steepest (args .instants .now) (args .frequencies .now)) (args .slope .now) (told .0 .0) _ refl (sym (ap slopeIn (told .1)) ∙ call .steepest-slope .ensures)
+    answered-as (λ (x : Float). x) (steepestSlope (args .instants .now) (args .frequencies .now)) (args .slope .now) (told .0 .0) _ refl (sym (ap slopeIn (told .1)) ∙ call .steepest-slope .ensures)
 
 returns-2 : tie.Need-returns-2
 returns-2 c =
     let call = c .before .before .before in
     let args = call .before .before .args in
     let told = c .before .least2 .given in
-    refused-as (λ (x : Float). x) (steepest (args .instants .now) (args .frequencies .now)) (args .slope .now) (told .0 .0) (sym (ap slopeIn (told .1)) ∙ call .steepest-slope .ensures)
+    refused-as (λ (x : Float). x) (steepestSlope (args .instants .now) (args .frequencies .now)) (args .slope .now) (told .0 .0) (sym (ap slopeIn (told .1)) ∙ call .steepest-slope .ensures)
 
 pub orbit-steepest-slope-spec : {M : Type 1} → statement M
 orbit-steepest-slope-spec =

@@ -10,7 +10,7 @@ use mir.Syntax.{w64}
 use mir.ValLaws.{toZ-ofZ}
 use Rattle.common.specs.Outcome.{answered}
 use Rattle.checks.specs.Entries.{firstFailing, samplesChecks}
-use Rattle.checks.proofs.Passed.{samples-samples}
+use Rattle.checks.proofs.Checked.{samples-samples}
 use Rattle.samples.specs.Approach.{approachOf}
 use Rattle.common.proofs.Outcomes.{unless-refused, unless-none}
 use Rattle.samples.proofs.Answers.{approach-is}

@@ -3,7 +3,8 @@ use borrow.Author.Needs.{needs}
 use mathlib.Core.Path.{ap, _∙_}
 use lib.Ieee.{Float, binary64, div, ofBits}
 use Rattle.float.specs.Conversions.{nearestOf}
-use Rattle.samples.specs.Approach.{thousand, millisecond}
+use Rattle.common.specs.Numbers.{thousand}
+use Rattle.common.specs.Time.{millisecond}
 use Rattle.samples.proofs.Gaps.{subtracts, divides, divided}
 use Rattle.samples.proofs.approach.gap_between.Statement.{statement}
 use Rattle.samples.proofs.approach.gap_between.Tie as tie

@@ -4,9 +4,9 @@ use mathlib.Core.Path.{ap, sym, _∙_}
 use lib.Ieee.{ofBits, neg}
 use Rattle.common.specs.Outcome.{answered}
 use Rattle.checks.specs.Entries.{firstFailing, samplesChecks}
-use Rattle.checks.proofs.Passed.{samples-samples}
+use Rattle.checks.proofs.Checked.{samples-samples}
 use Rattle.samples.specs.declared.approach.LeastSlope.{LeastSlope}
-use Rattle.samples.specs.Approach.{steepestSlope, leastSlope}
+use Rattle.samples.specs.Approach.{slopeFloor, leastSlope}
 use Rattle.common.proofs.Outcomes.{outcome-refused, outcome-answered}
 use Rattle.samples.proofs.approach.steepest_slope.Statement.{statement}
 use Rattle.samples.proofs.approach.steepest_slope.Tie as tie
@@ -19,7 +19,7 @@ returns c =
     let a = c .before .before .before .args in
     let ts = a .instants .now in
     let fs = a .frequencies .now in
-    outcome-refused (c .before .refuse-samples .result) (firstFailing (samplesChecks ts fs)) (leastSlope steepestSlope ts fs .slope) (c .before .refuse-samples .ensures) (c .if1 .taken)
+    outcome-refused (c .before .refuse-samples .result) (firstFailing (samplesChecks ts fs)) (leastSlope slopeFloor ts fs .slope) (c .before .refuse-samples .ensures) (c .if1 .taken)
 
 least-slope-requires : tie.Need-least-slope-requires
 least-slope-requires c κs =
@@ -35,7 +35,7 @@ returns-2 c =
     let a = c .before .before .before .before .args in
     let ts = a .instants .now in
     let fs = a .frequencies .now in
-    ap (λ (x : LeastSlope). answered (x .slope)) (c .least-slope .ensures .0) ∙ outcome-answered (k .result) (firstFailing (samplesChecks ts fs)) (leastSlope steepestSlope ts fs .slope) (k .ensures) (c .before .if1 .left)
+    ap (λ (x : LeastSlope). answered (x .slope)) (c .least-slope .ensures .0) ∙ outcome-answered (k .result) (firstFailing (samplesChecks ts fs)) (leastSlope slopeFloor ts fs .slope) (k .ensures) (c .before .if1 .left)
 
 pub steepest-slope-spec : {M : Type 1} → statement M
 steepest-slope-spec =

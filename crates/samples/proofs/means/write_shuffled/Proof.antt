@@ -3,6 +3,9 @@ use borrow.Author.Needs.{needs}
 use Rattle.samples.proofs.means.write_shuffled.Statement.{statement}
 use Rattle.samples.proofs.means.write_shuffled.Tie as tie
 
+abbrev start-of : tie.After-spare-frequencies → tie.Start
+start-of c = c .before .before .before .before .before .before .before .before
+
 slice-aggregate-write-sorted : tie.Need-slice-aggregate-write-sorted
 slice-aggregate-write-sorted c = search needs
 
@@ -16,7 +19,7 @@ slice-aggregate-write-sorted-4 : tie.Need-slice-aggregate-write-sorted-4
 slice-aggregate-write-sorted-4 c = search needs
 
 write-sorted-requires : tie.Need-write-sorted-requires
-write-sorted-requires c κs = let s = c .before .before .before .before .before .before .before .before in (s .pre .0, (s .pre .1, (s .pre .0 .few, s .pre .0 .few, s .pre .0 .few, s .pre .0 .few)))
+write-sorted-requires c κs = let s = start-of c in (s .pre .0, (s .pre .1, (s .pre .0 .few, s .pre .0 .few, s .pre .0 .few, s .pre .0 .few)))
 
 same-length : tie.Need-same-length
 same-length c = search needs

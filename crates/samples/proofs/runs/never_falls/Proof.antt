@@ -13,8 +13,9 @@ use lib.ListN.{length, getD}
 use mir.Syntax.{w64}
 use mir.ValLaws.{toZ-ofZ}
 use Rattle.samples.specs.Means.{wholeSecond}
-use Rattle.samples.specs.Runs.{Reached, secondAt}
-use Rattle.samples.proofs.Parts.{back, limit-fits}
+use Rattle.samples.specs.Runs.{Limited, secondAt}
+use Rattle.samples.proofs.Gaps.{back}
+use Rattle.samples.proofs.Parts.{limit-fits}
 use Rattle.samples.proofs.Starts.{fails}
 use Rattle.samples.proofs.runs.never_falls.Statement.{statement}
 use Rattle.samples.proofs.runs.never_falls.Tie as tie
@@ -26,7 +27,7 @@ abbrev μ-loop : tie.MeasureT-loop
 μ-loop instants k₀ k = length instants - k
 
 -- the second at k - 1 is not after the one at k
-next : (ts : List ℤ) (k : ℕ) (v : Bool) → Reached ts → v ≡ ltZ (wholeSecond (back (getD ts k (pos 0)))) (wholeSecond (back (getD ts (k - 1) (pos 0)))) → v ≡ false → secondAt ts (k - 1) ≤ℤ secondAt ts k
+next : (ts : List ℤ) (k : ℕ) (v : Bool) → Limited ts → v ≡ ltZ (wholeSecond (back (getD ts k (pos 0)))) (wholeSecond (back (getD ts (k - 1) (pos 0)))) → v ≡ false → secondAt ts (k - 1) ≤ℤ secondAt ts k
 next ts k v r e q =
     let a = getD ts k (pos 0) in
     let b = getD ts (k - 1) (pos 0) in

@@ -15,9 +15,10 @@ use mir.Syntax.{w64}
 use mir.Val.{SFits}
 use mir.ValLaws.{toZ-ofZ}
 use Rattle.samples.specs.Means.{wholeSecond, eqZ}
-use Rattle.samples.specs.Sums.{Start}
-use Rattle.samples.specs.Runs.{Reached, secondAt}
-use Rattle.samples.proofs.Parts.{back, limit-fits}
+use Rattle.samples.specs.Sums.{StartsSecond}
+use Rattle.samples.specs.Runs.{Limited, secondAt}
+use Rattle.samples.proofs.Gaps.{back}
+use Rattle.samples.proofs.Parts.{limit-fits}
 use Rattle.samples.proofs.Starts.{holds, eqZ→eq, eq→eqZ}
 use Rattle.samples.proofs.runs.run_end.Statement.{statement}
 use Rattle.samples.proofs.runs.run_end.Tie as tie
@@ -28,7 +29,7 @@ Inv-loop instants from start end₀ end = (from < end) × (end ≤ length instan
 abbrev μ-loop : tie.MeasureT-loop
 μ-loop instants from start end₀ end = length instants - end
 
-module _ (ts : List ℤ) (from end : ℕ) (start : ℤ) (r : Reached ts) (f : SFits w64 start) (e : wholeSecond start ≡ secondAt ts from) where
+module _ (ts : List ℤ) (from end : ℕ) (start : ℤ) (r : Limited ts) (f : SFits w64 start) (e : wholeSecond start ≡ secondAt ts from) where
   -- the test, on the numbers
   test : (v w : Bool) → v ≡ eqZ (wholeSecond (back (getD ts end (pos 0)))) (wholeSecond (back start)) → v ≡ w → eqZ (secondAt ts end) (secondAt ts from) ≡ w
   test v w p q =
@@ -67,7 +68,7 @@ shared-slice-copy-out-in-second c = search needs
 in-second-requires : tie.Need-in-second-requires Inv-loop μ-loop
 in-second-requires c κs =
     let s = c .before .before .before in
-    subst Start (sym (toZ-ofZ w64 (s .args .start) (s .fits .start))) (s .pre .1 .1 .0)
+    subst StartsSecond (sym (toZ-ofZ w64 (s .args .start) (s .fits .start))) (s .pre .1 .1 .0)
 
 returns : tie.Need-returns Inv-loop μ-loop
 returns c =

@@ -2,24 +2,27 @@
 use borrow.Author.Needs.{needs}
 use mathlib.Core.Path.{_≡_, sym, ap, _∙_, subst}
 use mathlib.Core.List.{List}
-use Prim.Native.Nat.{_-_, _≤_, _<_}
+use Prim.Native.Nat.{_-_, _≤_}
 use native.Mathlib.Omega.{arith}
 use lib.IntN.{ℤ, pos, natAbs}
-use lib.ListN.{length, getD, set, take, drop}
+use lib.ListN.{getD, set}
 use mir.Syntax.{w64}
 use mir.Val.{SFits}
 use mir.ValLaws.{toZ-ofZ}
 use Rattle.checks.specs.Limits.{farthestInstant}
 use Rattle.samples.specs.declared.sums.Mean.{Mean}
 use Rattle.samples.specs.Means.{Sample, bin, recording, meanOf}
-use Rattle.samples.specs.Sums.{asMean, Start}
+use Rattle.samples.specs.Sums.{asMean, StartsSecond}
 use Rattle.samples.specs.Runs.{secondAt}
 use Rattle.samples.proofs.Parts.{limit-fits}
 use Rattle.samples.proofs.Starts.{start-at, start-is, second-is}
-use Rattle.samples.proofs.Places.{holds-sample}
-use Rattle.samples.proofs.RunsOfSeconds.{recorded-part, run-bin}
+use Rattle.samples.proofs.RunsOfSeconds.{run-one, run-is-bin}
 use Rattle.samples.proofs.runs.write_run.Statement.{statement}
 use Rattle.samples.proofs.runs.write_run.Tie as tie
+
+-- the start, from where the run's end is found
+abbrev start-of : tie.After-run-end → tie.Start
+start-of c = c .before .before .before .before .before
 
 mul-second-start : tie.Need-mul-second-start
 mul-second-start c = search needs
@@ -40,53 +43,39 @@ run-end-requires c κs =
     let t = getD (s .args .instants .now) (s .args .from) (pos 0) in
     let h = s .pre .0 .limited (s .args .from) in
     let r = c .second-start .result in
-    (search needs, (s .pre .0 .limited, (subst Start (sym (start-is t r (limit-fits t h) h (c .second-start .ensures))) (start-at t h), second-is t r (limit-fits t h) h (c .second-start .ensures))))
+    (search needs, (s .pre .0 .limited, (subst StartsSecond (sym (start-is t r (limit-fits t h) h (c .second-start .ensures))) (start-at t h), second-is t r (limit-fits t h) h (c .second-start .ensures))))
 
-mul-bin-mean : tie.Need-mul-bin-mean
-mul-bin-mean c = search needs
+mul-run-mean : tie.Need-mul-run-mean
+mul-run-mean c = search needs
 
-sub-bin-mean : tie.Need-sub-bin-mean
-sub-bin-mean c = omega (arith, c .run-end .ensures .later)
+sub-run-mean : tie.Need-sub-run-mean
+sub-run-mean c = omega (arith, c .run-end .ensures .later)
 
-part-bin-mean-start : tie.Need-part-bin-mean-start
-part-bin-mean-start c = omega (arith, c .run-end .ensures .later)
+part-run-mean-start : tie.Need-part-run-mean-start
+part-run-mean-start c = omega (arith, c .run-end .ensures .later)
 
-part-bin-mean-end : tie.Need-part-bin-mean-end
-part-bin-mean-end c = c .run-end .ensures .inside
+part-run-mean-end : tie.Need-part-run-mean-end
+part-run-mean-end c = c .run-end .ensures .inside
 
-mul-bin-mean-2 : tie.Need-mul-bin-mean-2
-mul-bin-mean-2 c = search needs
+mul-run-mean-2 : tie.Need-mul-run-mean-2
+mul-run-mean-2 c = search needs
 
-sub-bin-mean-2 : tie.Need-sub-bin-mean-2
-sub-bin-mean-2 c = omega (arith, c .before .run-end .ensures .later)
+sub-run-mean-2 : tie.Need-sub-run-mean-2
+sub-run-mean-2 c = omega (arith, c .before .run-end .ensures .later)
 
-part-bin-mean-start-2 : tie.Need-part-bin-mean-start-2
-part-bin-mean-start-2 c = omega (arith, c .before .run-end .ensures .later)
+part-run-mean-start-2 : tie.Need-part-run-mean-start-2
+part-run-mean-start-2 c = omega (arith, c .before .run-end .ensures .later)
 
-part-bin-mean-end-2 : tie.Need-part-bin-mean-end-2
-part-bin-mean-end-2 c =
+part-run-mean-end-2 : tie.Need-part-run-mean-end-2
+part-run-mean-end-2 c =
     let s = c .before .before .before .before .before .before in
     omega (arith, c .before .run-end .ensures .inside, s .pre .0 .same)
 
-bin-mean-requires : tie.Need-bin-mean-requires
-bin-mean-requires c κs =
-    let s = c .before .before .before .before .before .before .before in
-    let ts = s .args .instants .now in
-    let fs = s .args .frequencies .now in
-    let from = s .args .from in
-    let end = c .before .before .run-end .result in
-    let t = getD ts from (pos 0) in
-    let h = s .pre .0 .limited from in
-    let r = c .before .before .before .second-start .result in
-    let x = c .before .before .before .second-start .ensures in
-    let run = c .before .before .run-end .ensures in
-    let l : from < length ts = omega (arith, run .later, run .inside) in (
-      recorded-part ts fs from (end - from) (s .pre .0),
-      (
-        subst Start (sym (start-is t r (limit-fits t h) h x)) (start-at t h),
-        λ q. holds-sample ts fs (s .pre .0 .same) from l (sym (run-bin ts fs (s .pre .0 .same) (s .pre .1 .0) from end (s .pre .1 .1 .1) run) ∙ ap (λ (z : ℤ). bin z (recording (take (end - from) (drop from ts)) (take (end - from) (drop from fs)))) (sym (second-is t r (limit-fits t h) h x)) ∙ q),
-      ),
-    )
+run-mean-requires : tie.Need-run-mean-requires
+run-mean-requires c κs =
+    let s = start-of (c .before .before) in
+    let run = c .before .before .run-end in
+    run-one (s .args .instants .now) (s .args .frequencies .now) (s .pre .0) (s .pre .1 .0) (s .args .from) (run .result) (s .pre .1 .1 .1) (run .ensures)
 
 mul-instant : tie.Need-mul-instant
 mul-instant c = search needs
@@ -108,23 +97,17 @@ same-length-2 c = search needs
 
 returns : tie.Need-returns
 returns c =
-    let s = c .before .before .before .before .before .before .before .before .before in
+    let s = start-of (c .before .before .before .before) in
     let ts = s .args .instants .now in
     let fs = s .args .frequencies .now in
     let from = s .args .from in
-    let end = c .before .before .before .before .run-end .result in
-    let t = getD ts from (pos 0) in
-    let h = s .pre .0 .limited from in
-    let r = c .before .before .before .before .before .second-start .result in
-    let x = c .before .before .before .before .before .second-start .ensures in
-    let run = c .before .before .before .before .run-end .ensures in
-    let m = c .before .bin-mean .result in
+    let run = c .before .before .before .before .run-end in
+    let m = c .before .run-mean .result in
     let f : SFits w64 (m .instant) = search needs in
-    let e : m ≡ asMean (meanOf (bin (secondAt ts from) (recording ts fs))) =
-    c .before .bin-mean .ensures
-    ∙ ap (λ (z : ℤ). asMean (meanOf (bin z (recording (take (end - from) (drop from ts)) (take (end - from) (drop from fs)))))) (second-is t r (limit-fits t h) h x)
-    ∙ ap (λ (l : List Sample). asMean (meanOf l)) (run-bin ts fs (s .pre .0 .same) (s .pre .1 .0) from end (s .pre .1 .1 .1) run) in
-    (run, (ap (set (s .args .mean-instants .now) (s .args .place)) (toZ-ofZ w64 (m .instant) f ∙ ap (λ (x : Mean). x .instant) e), ap (λ (x : Mean). set (s .args .mean-frequencies .now) (s .args .place) (x .frequency)) e))
+    let e : m ≡ asMean (meanOf (bin (secondAt ts from) (recording ts fs))) = c .before .run-mean .ensures ∙ ap (λ (l : List Sample). asMean (meanOf l)) (run-is-bin ts fs (s .pre .0) (s .pre .1 .0) from (run .result) (s .pre .1 .1 .1) (run .ensures)) in (
+      run .ensures,
+      (ap (set (s .args .mean-instants .now) (s .args .place)) (toZ-ofZ w64 (m .instant) f ∙ ap (λ (x : Mean). x .instant) e), ap (λ (x : Mean). set (s .args .mean-frequencies .now) (s .args .place) (x .frequency)) e),
+    )
 
 pub write-run-spec : {M : Type 1} → statement M
 write-run-spec =
@@ -134,15 +117,15 @@ write-run-spec =
     shared-slice-copy-out-second-start
     second-start-requires
     run-end-requires
-    mul-bin-mean
-    sub-bin-mean
-    part-bin-mean-start
-    part-bin-mean-end
-    mul-bin-mean-2
-    sub-bin-mean-2
-    part-bin-mean-start-2
-    part-bin-mean-end-2
-    bin-mean-requires
+    mul-run-mean
+    sub-run-mean
+    part-run-mean-start
+    part-run-mean-end
+    mul-run-mean-2
+    sub-run-mean-2
+    part-run-mean-start-2
+    part-run-mean-end-2
+    run-mean-requires
     mul-instant
     slice-set-from-instant
     mul-mean-frequencies

@@ -23,6 +23,10 @@ Inv-loop instants frequencies mean-instants₀ mean-frequencies₀ count₀ from
 abbrev μ-loop : tie.MeasureT-loop
 μ-loop instants frequencies mean-instants₀ mean-frequencies₀ count₀ from₀ mean-instants mean-frequencies count from = length instants - from
 
+-- a turn of the loop, from its end
+abbrev loop-of : tie.After-slice-known2 Inv-loop μ-loop → tie.In-loop Inv-loop μ-loop
+loop-of c = c .before .before .before .before .before .before
+
 loop-holds : tie.Need-loop-holds Inv-loop μ-loop
 loop-holds c =
     let s = c .before .before in
@@ -43,8 +47,9 @@ write-run-requires c κs =
 
 add-count : tie.Need-add-count Inv-loop μ-loop
 add-count c =
-    let s = c .before .before .before .before .before .before .before .before .before .before in
-    let at = c .before .before .before .before .before .before .before .loop in
+    let loop = loop-of c in
+    let s = loop .before .before .before .before in
+    let at = loop .before .loop in
     let p = s .pre .1 .1 in
     omega (arith, at .inv .1, s .pre .0 .few, many (s .args .instants .now) (s .args .frequencies .now) (s .pre .0) (s .args .mean-instants .now) (s .args .mean-frequencies .now) (p .0) (p .1) .2)
 
@@ -55,11 +60,12 @@ loop-less c =
 
 loop-again : tie.Need-loop-again Inv-loop μ-loop
 loop-again c =
-    let s = c .before .before .before .before .before .before .before .before .before .before in
-    let at = c .before .before .before .before .before .before .before .loop in
+    let loop = loop-of c in
+    let s = loop .before .before .before .before in
+    let at = loop .before .loop in
     let ts = s .args .instants .now in
     let fs = s .args .frequencies .now in
-    let l : at .from < length ts = c .before .before .before .before .before .before .loop-test .taken in
+    let l : at .from < length ts = loop .loop-test .taken in
     let p = s .pre .1 .1 in
     let h = at .inv .2 .0 l in
     let w = c .before .before .before .write-run .ensures in

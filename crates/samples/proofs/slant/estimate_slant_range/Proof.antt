@@ -3,7 +3,8 @@ use borrow.Author.Needs.{needs}
 use mathlib.Core.Path.{sym, ap, _∙_}
 use mathlib.Core.Bool.{Bool, cond}
 use lib.Ieee.{Float, binary64, mul, div, lt, ofBits}
-use Rattle.samples.specs.Slant.{satelliteSpeed, lightSpeed, leastSteepness, fallbackRange}
+use Rattle.common.specs.Numbers.{lightSpeed}
+use Rattle.samples.specs.Slant.{satelliteSpeed, leastSteepness, fallbackRange}
 use Rattle.samples.proofs.slant.estimate_slant_range.Statement.{statement}
 use Rattle.samples.proofs.slant.estimate_slant_range.Tie as tie
 

@@ -9,17 +9,14 @@ use Rattle.chebyshev.specs.Recurrence.{rounded, T, T′, polynomials}
 use Rattle.common.proofs.Filled.{filled, filled-more, getD-listOf}
 use Rattle.chebyshev.proofs.Sums.{T′-step}
 use borrow.Author.Needs.{needs}
-use Rattle.chebyshev.proofs.recurrence.slopes_at.Statement.{statement}
-use Rattle.chebyshev.proofs.recurrence.slopes_at.Tie as tie
+use Rattle.chebyshev.proofs.recurrence.slopes_from.Statement.{statement}
+use Rattle.chebyshev.proofs.recurrence.slopes_from.Tie as tie
 
 abbrev Inv-loop : tie.InvT-loop
 Inv-loop tau t dt₀ j₀ dt j = (2 ≤ j) × (j ≤ 10) × (length dt ≡ 10) × (t ≡ polynomials rounded tau) × ((k : ℕ) → k < j → getD dt k nan ≡ T′ rounded tau k)
 
 abbrev μ-loop : tie.MeasureT-loop
 μ-loop tau t dt₀ j₀ dt j = 10 - j
-
-values-at-requires : tie.Need-values-at-requires Inv-loop μ-loop
-values-at-requires c κs = search needs
 
 array-write-dt : tie.Need-array-write-dt Inv-loop μ-loop
 array-write-dt c = search needs
@@ -34,7 +31,7 @@ first-two tau rest (suc (suc k)) h = absurd (none k h)
     none k h = omega arith
 
 loop-holds : tie.Need-loop-holds Inv-loop μ-loop
-loop-holds c = (search needs, search needs, search needs, c .values-at .ensures, first-two (c .before .args .tau) (replicate 8 (ofBits binary64 0)))
+loop-holds c = (search needs, search needs, search needs, c .pre, first-two (c .args .tau) (replicate 8 (ofBits binary64 0)))
 
 sub-dt : tie.Need-sub-dt Inv-loop μ-loop
 sub-dt c = search needs
@@ -88,7 +85,7 @@ next-slope tau t dt j h l e below =
 loop-again : tie.Need-loop-again Inv-loop μ-loop
 loop-again c =
     let at = c .before .loop in
-    let tau = c .before .before .before .args .tau in (
+    let tau = c .before .before .args .tau in (
       search needs,
       search needs,
       simp length-set (search needs),
@@ -99,15 +96,14 @@ loop-again c =
 returns : tie.Need-returns Inv-loop μ-loop
 returns c =
     let at = c .before .loop in
-    filled (T′ rounded (c .before .before .before .args .tau)) 10 nan (at .dt) (at .inv .2) (λ k h. at .inv .4 k (omega arith))
+    filled (T′ rounded (c .before .before .args .tau)) 10 nan (at .dt) (at .inv .2) (λ k h. at .inv .4 k (omega arith))
 
-pub slopes-at-spec : {M : Type 1} → statement M
-slopes-at-spec =
+pub slopes-from-spec : {M : Type 1} → statement M
+slopes-from-spec =
     tie.close
     (tie.spec
     Inv-loop
     μ-loop
-    values-at-requires
     array-write-dt
     loop-holds
     sub-dt

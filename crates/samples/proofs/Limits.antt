@@ -3,26 +3,37 @@ use mathlib.Core.Path.{_≡_, refl, sym, ap, _∙_, subst}
 use mathlib.Core.Logic.{_⊎_, inl, inr}
 use mathlib.Core.Bool.{Bool, true, false, not, cond}
 use mathlib.Core.List.{List, [], _∷_, List·Memᴰ, List·Memᴰ·head, List·Memᴰ·tail, List·Memᴰ·not-nil, List·Memᴰ·cases-cons}
-use Prim.Native.Nat.{ℕ, zero, suc, _≤_, _<_}
+use Prim.Native.Nat.{ℕ, zero, suc, _+_, _≤_, _<_}
 use native.Mathlib.Omega.{arith}
 use lib.Dec.{T, ltb, ltb→lt, nltb→le}
 use lib.IntN.{ℤ, pos, natAbs}
-use lib.ListN.{length, getD, take, List·getD-eq-default}
-use lib.Seq.{getD-take, length-take-le}
+use lib.ListN.{length, getD, take, drop, List·getD-eq-default}
+use lib.Seq.{getD-take, getD-drop, length-take-le}
 use lib.Ieee.{Float}
 use mir.Syntax.{w64}
 use mir.ValLaws.{toZ-ofZ}
 use Rattle.checks.specs.Limits.{farthestInstant}
 use Rattle.samples.specs.Means.{Sample, wholeSecond, eqZ, bin, recording, instants, Alike}
-use Rattle.samples.specs.Runs.{Reached}
+use Rattle.samples.specs.Runs.{Limited}
 use Rattle.samples.specs.Sorting.{SameBins}
-use Rattle.samples.proofs.Parts.{back, limit-fits}
+use Rattle.samples.proofs.Gaps.{back}
+use Rattle.samples.proofs.Parts.{limit-fits}
 use Rattle.samples.proofs.Starts.{eq→eqZ}
 use Rattle.samples.proofs.Recordings.{record-length, record-instants}
 
 -- an instant among the first n that are within the limit
-pub reached-at : (n : ℕ) (ts : List ℤ) → Reached (take n ts) → (k : ℕ) → k < n → natAbs (getD ts k (pos 0)) ≤ farthestInstant
-reached-at n ts r k h = subst (λ (z : ℤ). natAbs z ≤ farthestInstant) (getD-take n ts k (pos 0) h) (r k)
+pub limited-at : (n : ℕ) (ts : List ℤ) → Limited (take n ts) → (k : ℕ) → k < n → natAbs (getD ts k (pos 0)) ≤ farthestInstant
+limited-at n ts r k h = subst (λ (z : ℤ). natAbs z ≤ farthestInstant) (getD-take n ts k (pos 0) h) (r k)
+
+-- of a list's front, and of its rest
+pub limited-take : (n : ℕ) (l : List ℤ) → Limited l → Limited (take n l)
+limited-take zero l h k = omega arith
+limited-take (suc n) [] h k = omega arith
+limited-take (suc n) (x ∷ l) h zero = h 0
+limited-take (suc n) (x ∷ l) h (suc k) = limited-take n l (λ j. h (suc j)) k
+
+pub limited-drop : (n : ℕ) (l : List ℤ) → Limited l → Limited (drop n l)
+limited-drop n l h k = subst (λ (z : ℤ). natAbs z ≤ farthestInstant) (sym (getD-drop n l k (pos 0))) (h (n + k))
 
 -- as the machine reads it back
 pub limit-back : (t : ℤ) → natAbs t ≤ farthestInstant → natAbs (back t) ≤ farthestInstant
@@ -92,9 +103,9 @@ module _ (n : ℕ) (ts : List ℤ) (fs : List Float) (ts′ : List ℤ) (fs′ :
       (mem-all P S′ (λ x m. all-mem P S old x (alike-mem S′ S a x m)) i (omega arith))
 
   -- the limit on them
-  pub alike-reached : Reached (take n ts) → Reached (take n ts′)
-  alike-reached r i = go (ltb i n) (ltb→lt i n) (nltb→le i n)
+  pub alike-limited : Limited (take n ts) → Limited (take n ts′)
+  alike-limited r i = go (ltb i n) (ltb→lt i n) (nltb→le i n)
     where
       go : (v : Bool) → (T v → i < n) → (T (not v) → n ≤ i) → natAbs (getD (take n ts′) i (pos 0)) ≤ farthestInstant
-      go true f g = subst (λ (z : ℤ). natAbs z ≤ farthestInstant) (sym (getD-take n ts′ i (pos 0) (f tt))) (alike-all (λ t. natAbs t ≤ farthestInstant) (reached-at n ts r) i (f tt))
+      go true f g = subst (λ (z : ℤ). natAbs z ≤ farthestInstant) (sym (getD-take n ts′ i (pos 0) (f tt))) (alike-all (λ t. natAbs t ≤ farthestInstant) (limited-at n ts r) i (f tt))
       go false f g = subst (λ (z : ℤ). natAbs z ≤ farthestInstant) (sym (List·getD-eq-default (take n ts′) (pos 0) (omega (arith, g tt, length-take-le n ts′ h′)))) (omega arith)

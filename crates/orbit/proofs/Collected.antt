@@ -1,50 +1,18 @@
--- Sums over the front of a list, one term after the other, and the residuals of a recording, one sample after the other. Assumes nothing.
+-- The residuals of a recording, one sample after the other. Assumes nothing.
 use mathlib.Core.Path.{_≡_, refl, sym, ap, _∙_}
-use mathlib.Core.List.{List, [], _∷_, _++_, map, append-assoc, append-nil}
+use mathlib.Core.List.{List, [], _∷_, _++_, append-assoc, append-nil}
 use Prim.Native.Nat.{ℕ, suc, _+_, _-_, _≤_, _<_}
 use native.Mathlib.Numerals.{add-one}
-use native.Mathlib.Omega.{arith}
 use lib.IntN.{ℤ, pos}
 use lib.ListN.{length, getD, take, drop, set, drop-of-length-le}
 use lib.Seq.{drop-cons, take-suc-set}
-use lib.Ieee.{Float, nan, binary64, add}
+use lib.Ieee.{Float, nan}
 use Rattle.samples.specs.Means.{Sample, recording}
-use Rattle.orbit.specs.Residuals.{Residual, nothing, left, keep, residuals, total}
-
--- ---- sums
-
-pub total-step : (s : Float) (l : List Float) (i n : ℕ) → i < n → n ≤ length l → total (add binary64 s (getD l i nan)) (take (n - (i + 1)) (drop (i + 1) l)) ≡ total s (take (n - i) (drop i l))
-unfolding total
-total-step s l i n h k =
-    let e : n - i ≡ suc (n - (i + 1)) = omega arith in
-    let u : i < length l = omega arith in
-    rw (e, drop-cons l i nan u, add-one)
-
-pub total-end : (s : Float) (l : List Float) (i n : ℕ) → n ≤ i → total s (take (n - i) (drop i l)) ≡ s
-unfolding total
-total-end s l i n h =
-    let e : n - i ≡ 0 = omega arith in
-    rw e
-
-module _ (g : Float → Float) where
-  pub mapped-step : (s : Float) (l : List Float) (i n : ℕ) → i < n → n ≤ length l → total (add binary64 s (g (getD l i nan))) (map g (take (n - (i + 1)) (drop (i + 1) l))) ≡ total s (map g (take (n - i) (drop i l)))
-  unfolding total
-  mapped-step s l i n h k =
-      let e : n - i ≡ suc (n - (i + 1)) = omega arith in
-      let u : i < length l = omega arith in
-      rw (e, drop-cons l i nan u, add-one)
-
-  pub mapped-end : (s : Float) (l : List Float) (i n : ℕ) → n ≤ i → total s (map g (take (n - i) (drop i l))) ≡ s
-  unfolding total
-  mapped-end s l i n h =
-      let e : n - i ≡ 0 = omega arith in
-      rw e
-
--- ---- residuals
+use Rattle.orbit.specs.Residuals.{Residual, skipped, residual, keep, residuals}
 
 pub keep-apart : (r : Residual) (ys : List Float) → keep r ys ≡ keep r [] ++ ys
-keep-apart nothing ys = refl
-keep-apart (left y) ys = refl
+keep-apart skipped ys = refl
+keep-apart (residual y) ys = refl
 
 -- one sample more: its residual, if it has one, stands after those before
 pub residuals-step : (f : Sample → Residual) (ts : List ℤ) (fs : List Float) (i : ℕ) (before : List Float) → i < length ts → i < length fs

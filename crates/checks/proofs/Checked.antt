@@ -11,11 +11,13 @@ use lib.Dec.{T, ltb, eqb}
 use lib.IntN.{ℤ, pos, natAbs}
 use lib.Signed.{ltZ, _<ℤ_}
 use lib.Ieee.{Float}
+use Rattle.units.specs.declared.Hertz.{Hertz}
+use Rattle.units.specs.declared.Observer.{Observer}
 use lib.ListN.{length, getD}
 use Rattle.checks.specs.Limits.{leastCoordinates, mostCoordinates, axes, mostSamples, farthestInstant}
 use Rattle.checks.specs.Checks.{any, miscounted, unsampled, tooShort, beyond, unrising}
-use Rattle.checks.specs.Entries.{firstFailing, evaluationChecks, propagationChecks, closestChecks, meansChecks, samplesChecks, fitChecks, passChecks}
-use Rattle.checks.specs.Passed.{Table, Samples}
+use Rattle.checks.specs.Entries.{firstFailing, propagationChecks, closestChecks, meansChecks, samplesChecks, fitChecks, passChecks}
+use Rattle.checks.specs.Checked.{Table, Samples}
 use Rattle.checks.proofs.First.{numbered, passes, without, never, neither}
 
 -- check 4, of one instant and of each of a list
@@ -78,27 +80,19 @@ areas ss ia fa h =
 
 -- the entries: each check by its place in the entry's list
 
-pub evaluation-near : (t : ℤ) → firstFailing (evaluationChecks t) ≡ 0 → natAbs t ≤ farthestInstant
-unfolding numbered
-evaluation-near t h = near-one t (passes (evaluationChecks t) 0 tt h)
-
 module _ (ts : List ℤ) (ps : List Float) (t : ℤ) (h : firstFailing (propagationChecks ts ps t) ≡ 0) where
   pub propagation-table : Table ts ps
   unfolding numbered
   propagation-table = table ts ps (passes (propagationChecks ts ps t) 0 tt h) (passes (propagationChecks ts ps t) 1 tt h) (passes (propagationChecks ts ps t) 3 tt h)
 
-  pub propagation-near : natAbs t ≤ farthestInstant
-  unfolding numbered
-  propagation-near = near-one t (passes (propagationChecks ts ps t) 2 tt h)
-
-module _ (ts : List ℤ) (ps : List Float) (ox oy oz : Float) (t : ℤ) (h : firstFailing (closestChecks ts ps ox oy oz t) ≡ 0) where
+module _ (ts : List ℤ) (ps : List Float) (o : Observer) (t : ℤ) (h : firstFailing (closestChecks ts ps o t) ≡ 0) where
   pub closest-table : Table ts ps
   unfolding numbered
-  closest-table = table ts ps (passes (closestChecks ts ps ox oy oz t) 0 tt h) (passes (closestChecks ts ps ox oy oz t) 1 tt h) (passes (closestChecks ts ps ox oy oz t) 3 tt h)
+  closest-table = table ts ps (passes (closestChecks ts ps o t) 0 tt h) (passes (closestChecks ts ps o t) 1 tt h) (passes (closestChecks ts ps o t) 3 tt h)
 
   pub closest-near : natAbs t ≤ farthestInstant
   unfolding numbered
-  closest-near = near-one t (passes (closestChecks ts ps ox oy oz t) 2 tt h)
+  closest-near = near-one t (passes (closestChecks ts ps o t) 2 tt h)
 
 pub samples-samples : (ss : List ℤ) (fs : List Float) → firstFailing (samplesChecks ss fs) ≡ 0 → Samples ss fs
 unfolding numbered
@@ -113,36 +107,36 @@ module _ (ss : List ℤ) (fs : List Float) (ia : List ℤ) (fa : List Float) (h 
   unfolding numbered
   means-areas = areas ss ia fa (passes (meansChecks ss fs ia fa) 1 tt h)
 
-module _ (ts : List ℤ) (ps : List Float) (ss : List ℤ) (fs : List Float) (ox oy oz f0 : Float) (t : ℤ) (h : firstFailing (fitChecks ts ps ss fs ox oy oz f0 t) ≡ 0) where
+module _ (ts : List ℤ) (ps : List Float) (ss : List ℤ) (fs : List Float) (o : Observer) (f0 : Hertz) (t : ℤ) (h : firstFailing (fitChecks ts ps ss fs o f0 t) ≡ 0) where
   pub fit-table : Table ts ps
   unfolding numbered
-  fit-table = table ts ps (passes (fitChecks ts ps ss fs ox oy oz f0 t) 0 tt h) (passes (fitChecks ts ps ss fs ox oy oz f0 t) 2 tt h) (passes (fitChecks ts ps ss fs ox oy oz f0 t) 5 tt h)
+  fit-table = table ts ps (passes (fitChecks ts ps ss fs o f0 t) 0 tt h) (passes (fitChecks ts ps ss fs o f0 t) 2 tt h) (passes (fitChecks ts ps ss fs o f0 t) 5 tt h)
 
   pub fit-samples : Samples ss fs
   unfolding numbered
-  fit-samples = samples ss fs (passes (fitChecks ts ps ss fs ox oy oz f0 t) 1 tt h) (passes (fitChecks ts ps ss fs ox oy oz f0 t) 3 tt h)
+  fit-samples = samples ss fs (passes (fitChecks ts ps ss fs o f0 t) 1 tt h) (passes (fitChecks ts ps ss fs o f0 t) 3 tt h)
 
   pub fit-near : natAbs t ≤ farthestInstant
   unfolding numbered
-  fit-near = near-one t (passes (fitChecks ts ps ss fs ox oy oz f0 t) 4 tt h)
+  fit-near = near-one t (passes (fitChecks ts ps ss fs o f0 t) 4 tt h)
 
-module _ (ts : List ℤ) (ps : List Float) (ss : List ℤ) (fs : List Float) (ox oy oz f0 : Float) (ia : List ℤ) (fa : List Float) (h : firstFailing (passChecks ts ps ss fs ox oy oz f0 ia fa) ≡ 0) where
+module _ (ts : List ℤ) (ps : List Float) (ss : List ℤ) (fs : List Float) (o : Observer) (f0 : Hertz) (ia : List ℤ) (fa : List Float) (h : firstFailing (passChecks ts ps ss fs o f0 ia fa) ≡ 0) where
   pub pass-table : Table ts ps
   unfolding numbered
-  pass-table = table ts ps (passes (passChecks ts ps ss fs ox oy oz f0 ia fa) 0 tt h) (passes (passChecks ts ps ss fs ox oy oz f0 ia fa) 3 tt h) (passes (passChecks ts ps ss fs ox oy oz f0 ia fa) 5 tt h)
+  pass-table = table ts ps (passes (passChecks ts ps ss fs o f0 ia fa) 0 tt h) (passes (passChecks ts ps ss fs o f0 ia fa) 3 tt h) (passes (passChecks ts ps ss fs o f0 ia fa) 5 tt h)
 
   pub pass-samples : Samples ss fs
   unfolding numbered
-  pass-samples = samples ss fs (passes (passChecks ts ps ss fs ox oy oz f0 ia fa) 1 tt h) (passes (passChecks ts ps ss fs ox oy oz f0 ia fa) 4 tt h)
+  pass-samples = samples ss fs (passes (passChecks ts ps ss fs o f0 ia fa) 1 tt h) (passes (passChecks ts ps ss fs o f0 ia fa) 4 tt h)
 
   pub pass-areas : (length ss ≤ length ia) × (length ss ≤ length fa)
   unfolding numbered
-  pass-areas = areas ss ia fa (passes (passChecks ts ps ss fs ox oy oz f0 ia fa) 2 tt h)
+  pass-areas = areas ss ia fa (passes (passChecks ts ps ss fs o f0 ia fa) 2 tt h)
 
 -- check 10 is none of the pass's
-pub pass-never-ten : (ts : List ℤ) (ps : List Float) (ss : List ℤ) (fs : List Float) (ox oy oz f0 : Float) (ia : List ℤ) (fa : List Float) → firstFailing (passChecks ts ps ss fs ox oy oz f0 ia fa) ≡ 10 → ⊥
+pub pass-never-ten : (ts : List ℤ) (ps : List Float) (ss : List ℤ) (fs : List Float) (o : Observer) (f0 : Hertz) (ia : List ℤ) (fa : List Float) → firstFailing (passChecks ts ps ss fs o f0 ia fa) ≡ 10 → ⊥
 unfolding without
-pass-never-ten ts ps ss fs ox oy oz f0 ia fa = never 9 (passChecks ts ps ss fs ox oy oz f0 ia fa) tt
+pass-never-ten ts ps ss fs o f0 ia fa = never 9 (passChecks ts ps ss fs o f0 ia fa) tt
 
 -- the other way
 
