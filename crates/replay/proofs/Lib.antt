@@ -1,4 +1,3 @@
 -- What the proofs of replay share.
 mod Glyphs
 mod Signs
-mod Filled

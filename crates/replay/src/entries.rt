@@ -1,74 +1,333 @@
-// One function for each entry: it checks the number of words, calls the library, and puts the line of the answer into `out`.
+// The entries, each found by the number of its name: a function calls the library with what the words say, puts the answer, and says whether the
+// words were a case of the entry; where they were not, the answer means nothing.
+// One more entry is a name at the end of the list, the next number in `answer` or `answer_with_areas`, and a function.
+ghost use Prim.Native.Nat.{_≤_};
 use crate::numbers::double;
-use crate::numbers::signed;
-use crate::numbers::ten_doubles;
-use crate::numbers::ten_rows;
-use crate::printer::bad_case;
-use crate::printer::print_decimal;
+use crate::numbers::unsigned;
 use crate::printer::print_double;
 use crate::printer::print_doubles;
-use crate::printer::print_end;
-use crate::printer::print_signed;
-use crate::printer::print_text;
+use crate::printer::print_refusal;
+use crate::printer::print_wholes;
+use crate::printer::print_word;
+use crate::words::Case;
+use crate::words::Doubles;
+use crate::words::Wholes;
+use crate::words::doubles_in;
+use crate::words::observer;
+use crate::words::ten_doubles;
+use crate::words::whole_at;
+use crate::words::wholes_in;
+use check::same;
+use orbit::ChebyshevOrbit;
+use orbit::ClosestApproach;
+use orbit::Fitted;
+use orbit::Propagation;
+use samples::Approach;
+use samples::Downsampled;
+use samples::Slope;
+use units::Hertz;
+use units::Nanoseconds;
+use units::Seconds;
 
-// `sqrt X`: the root.
-pub(crate) fn sqrt(words: &[u64], out: &mut [u8]) -> usize {
-    if words.len() != 1 {
-        return bad_case(out);
+// How many elements an area may have.
+const AREA: usize = 4200;
+
+// The number of the entry of this name, from 0 on in the order of this list; how many there are where none has it.
+pub(crate) fn number_of(name: &[u8]) -> usize {
+    let names: &[u8] =
+        b"sqrt nearest truncated evaluate_chebyshev invert_matrix_10 get_chebyshev_model propagate_ecef evaluate find_pca_time \
+        downsample_data estimate_measured_pca_time steepest_slope estimate_slant_range fit_satellite pass ";
+    let mut number = 0;
+    let mut from = 0;
+    let mut i = 0;
+    while i < names.len() {
+        if names[i] == b' ' {
+            if same(name, &names[from..i]) {
+                return number;
+            }
+            number += 1;
+            from = i + 1;
+        }
+        i += 1;
     }
-    let root = float::sqrt(double(words[0]));
-    let at = print_text(out, 0, b"sqrt");
-    let at = print_double(out, at, root);
-    print_end(out, at)
+    number
 }
 
-// `nearest N`: the double nearest a signed number.
-pub(crate) fn nearest(words: &[u64], out: &mut [u8]) -> usize {
-    if words.len() != 1 {
-        return bad_case(out);
+// Has the entry of this number answer, and says whether the words were a case of it.
+pub(crate) fn answer(number: usize, case: Case, wholes: &Wholes, doubles: &Doubles) -> bool {
+    match number {
+        0 => {
+            print_double(float::sqrt(doubles[0]));
+            case.count == 1
+        }
+        1 => {
+            print_double(float::nearest(wholes[0]));
+            case.count == 1
+        }
+        2 => {
+            print_word(unsigned(float::truncated(doubles[0])));
+            case.count == 1
+        }
+        3 => {
+            let sums = chebyshev::evaluate_chebyshev(ten_doubles(doubles, 0), doubles[10]);
+            print_double(sums.value);
+            print_double(sums.slope);
+            case.count == 11
+        }
+        4 => invert_matrix_10(case, doubles),
+        5 => get_chebyshev_model(case, wholes, doubles),
+        6 => propagate_ecef(case, wholes, doubles),
+        7 => evaluate(case, wholes, doubles),
+        8 => find_pca_time(case, wholes, doubles),
+        10 => estimate_measured_pca_time(case, wholes, doubles),
+        11 => steepest_slope(case, wholes, doubles),
+        12 => {
+            print_double(samples::estimate_slant_range(Hertz(doubles[0]), doubles[1]).0);
+            case.count == 2
+        }
+        13 => fit_satellite(case, wholes, doubles),
+        _ => answer_with_areas(number, case, wholes, doubles),
     }
-    let x = float::nearest(signed(words[0]));
-    let at = print_text(out, 0, b"nearest");
-    let at = print_double(out, at, x);
-    print_end(out, at)
 }
 
-// `truncated X`: the whole part, as a signed number.
-pub(crate) fn truncated(words: &[u64], out: &mut [u8]) -> usize {
-    if words.len() != 1 {
-        return bad_case(out);
+// The length of an area, which stands `back` words from the end of a case; 0 where there is no room for it.
+fn area_length(case: Case, wholes: &Wholes, back: usize) -> usize
+    ensures { λ r. ⌜ r ≤ 4200 ⌝ }
+{
+    if back > case.count {
+        return 0;
     }
-    let n = float::truncated(double(words[0]));
-    let at = print_text(out, 0, b"truncated");
-    let at = print_signed(out, at, n);
-    print_end(out, at)
+    let length = unsigned(whole_at(wholes, case.count - back, 0)) as usize;
+    if length > AREA {
+        return 0;
+    }
+    length
 }
 
-// `evaluate_chebyshev C0..C9 TAU`: the value and the slope.
-pub(crate) fn evaluate_chebyshev(words: &[u64], out: &mut [u8]) -> usize {
-    if words.len() != 11 {
-        return bad_case(out);
-    }
-    let sums = chebyshev::evaluate_chebyshev(ten_doubles(words, 0), double(words[10]));
-    let at = print_text(out, 0, b"evaluate_chebyshev");
-    let at = print_double(out, at, sums.value);
-    let at = print_double(out, at, sums.slope);
-    print_end(out, at)
+// Has an entry answer that fills two areas, and puts these, whole. Their lengths are the last two words of the case, and before the call they hold markers.
+fn answer_with_areas(number: usize, case: Case, wholes: &Wholes, doubles: &Doubles) -> bool {
+    let mut instants = [0x1111_1111_1111_1111i64; AREA];
+    let mut frequencies = [double(0x4444_4444_4444_4444); AREA];
+    let m = area_length(case, wholes, 2);
+    let n = area_length(case, wholes, 1);
+    let instant_area = &mut instants[0..m];
+    let frequency_area = &mut frequencies[0..n];
+    let is_case = match number {
+        9 => downsample_data(case, wholes, doubles, instant_area, frequency_area),
+        14 => pass(case, wholes, doubles, instant_area, frequency_area),
+        _ => return false,
+    };
+    print_wholes(instant_area);
+    print_doubles(frequency_area);
+    is_case
 }
 
-// `invert_matrix_10 A00..A99`: the refusal alone, or 0 and the hundred numbers of the inverse.
-pub(crate) fn invert_matrix_10(words: &[u64], out: &mut [u8]) -> usize {
-    if words.len() != 100 {
-        return bad_case(out);
+// `invert_matrix_10 A00..A99`: the refusal alone, or 0 and the hundred cells of the inverse.
+fn invert_matrix_10(case: Case, doubles: &Doubles) -> bool {
+    let inverse = chebyshev::invert_matrix_10([
+        ten_doubles(doubles, 0),
+        ten_doubles(doubles, 10),
+        ten_doubles(doubles, 20),
+        ten_doubles(doubles, 30),
+        ten_doubles(doubles, 40),
+        ten_doubles(doubles, 50),
+        ten_doubles(doubles, 60),
+        ten_doubles(doubles, 70),
+        ten_doubles(doubles, 80),
+        ten_doubles(doubles, 90),
+    ]);
+    print_refusal(inverse.refusal);
+    if inverse.refusal == 0 {
+        let numbers = inverse.numbers;
+        print_doubles(&numbers);
     }
-    let inverse = chebyshev::invert_matrix_10(ten_rows(words));
-    let refusal = inverse.refusal;
-    let numbers = inverse.numbers;
-    let at = print_text(out, 0, b"invert_matrix_10");
-    let at = print_decimal(out, at, refusal as u64);
-    if refusal != 0 {
-        return print_end(out, at);
+    case.count == 100
+}
+
+// Puts a model: its end times and the coefficients of each axis.
+fn print_orbit(orbit: ChebyshevOrbit) {
+    let cx = orbit.cx;
+    let cy = orbit.cy;
+    let cz = orbit.cz;
+    print_doubles(&[orbit.t0.0, orbit.t9.0]);
+    print_doubles(&cx);
+    print_doubles(&cy);
+    print_doubles(&cz);
+}
+
+// `get_chebyshev_model INSTANTS POSITIONS INSTANT`: the refusal alone, or 0 and the model: its end times and the coefficients of each axis.
+fn get_chebyshev_model(case: Case, wholes: &Wholes, doubles: &Doubles) -> bool {
+    let model = orbit::get_chebyshev_model(
+        wholes_in(wholes, 0, case.first),
+        doubles_in(doubles, case.first, case.second),
+        Nanoseconds(whole_at(wholes, case.second, 0)),
+    );
+    print_refusal(model.refusal);
+    if model.refusal == 0 {
+        print_orbit(model.orbit);
     }
-    let at = print_doubles(out, at, &numbers);
-    print_end(out, at)
+    case.after_two == 1
+}
+
+// Puts a refusal, or 0 with the position and the velocity.
+fn print_motion(motion: Propagation) {
+    match motion {
+        Propagation::Refused(refusal) => print_refusal(refusal),
+        Propagation::At(p, v) => {
+            print_refusal(0);
+            print_doubles(&[p.x, p.y, p.z, v.x, v.y, v.z]);
+        }
+    }
+}
+
+// `propagate_ecef INSTANTS POSITIONS INSTANT`: the refusal alone, or 0 with the position and the velocity.
+fn propagate_ecef(case: Case, wholes: &Wholes, doubles: &Doubles) -> bool {
+    print_motion(orbit::propagate_ecef(
+        wholes_in(wholes, 0, case.first),
+        doubles_in(doubles, case.first, case.second),
+        Nanoseconds(whole_at(wholes, case.second, 0)),
+    ));
+    case.after_two == 1
+}
+
+// `evaluate T0 T9 CX CY CZ INSTANT`: the refusal alone, or 0 with the position and the velocity.
+fn evaluate(case: Case, wholes: &Wholes, doubles: &Doubles) -> bool {
+    let orbit = ChebyshevOrbit {
+        t0: Seconds(doubles[0]),
+        t9: Seconds(doubles[1]),
+        cx: ten_doubles(doubles, 2),
+        cy: ten_doubles(doubles, 12),
+        cz: ten_doubles(doubles, 22),
+    };
+    print_motion(orbit::evaluate(orbit, Nanoseconds(wholes[32])));
+    case.count == 33
+}
+
+// `find_pca_time INSTANTS POSITIONS OX OY OZ INSTANT`: the refusal alone, or 0 and the instant.
+fn find_pca_time(case: Case, wholes: &Wholes, doubles: &Doubles) -> bool {
+    let closest = orbit::find_pca_time(
+        wholes_in(wholes, 0, case.first),
+        doubles_in(doubles, case.first, case.second),
+        observer(ten_doubles(doubles, case.second)),
+        Nanoseconds(whole_at(wholes, case.second, 3)),
+    );
+    match closest {
+        ClosestApproach::Refused(refusal) => print_refusal(refusal),
+        ClosestApproach::At(t) => {
+            print_refusal(0);
+            print_word(unsigned(t.0));
+        }
+    }
+    case.after_two == 4
+}
+
+// `downsample_data INSTANTS FREQUENCIES LENGTH LENGTH`: the refusal, or 0 and the count; the areas follow.
+fn downsample_data(
+    case: Case,
+    wholes: &Wholes,
+    doubles: &Doubles,
+    instant_area: &mut [i64],
+    frequency_area: &mut [f64],
+) -> bool {
+    let means = samples::downsample_data(
+        wholes_in(wholes, 0, case.first),
+        doubles_in(doubles, case.first, case.second),
+        instant_area,
+        frequency_area,
+    );
+    match means {
+        Downsampled::Refused(refusal) => print_refusal(refusal),
+        Downsampled::Count(count) => {
+            print_refusal(0);
+            print_word(count as u64);
+        }
+    }
+    case.after_two == 2
+}
+
+// `estimate_measured_pca_time INSTANTS FREQUENCIES`: the refusal alone, or 0 and the instant.
+fn estimate_measured_pca_time(case: Case, wholes: &Wholes, doubles: &Doubles) -> bool {
+    let approach = samples::estimate_measured_pca_time(
+        wholes_in(wholes, 0, case.first),
+        doubles_in(doubles, case.first, case.second),
+    );
+    match approach {
+        Approach::Refused(refusal) => print_refusal(refusal),
+        Approach::At(t) => {
+            print_refusal(0);
+            print_word(unsigned(t.0));
+        }
+    }
+    case.after_two == 0
+}
+
+// `steepest_slope INSTANTS FREQUENCIES`: the refusal alone, or 0 and the slope.
+fn steepest_slope(case: Case, wholes: &Wholes, doubles: &Doubles) -> bool {
+    let slope = samples::steepest_slope(
+        wholes_in(wholes, 0, case.first),
+        doubles_in(doubles, case.first, case.second),
+    );
+    match slope {
+        Slope::Refused(refusal) => print_refusal(refusal),
+        Slope::Steepest(steepest) => {
+            print_refusal(0);
+            print_double(steepest);
+        }
+    }
+    case.after_two == 0
+}
+
+// Puts a refusal, or 0, clock offset, frequency offset, RMSE and count.
+fn print_fit(fit: Fitted) {
+    match fit {
+        Fitted::Refused(refusal) => print_refusal(refusal),
+        Fitted::Fit(report) => {
+            print_refusal(0);
+            print_doubles(
+                &[
+                    report.clock_offset.0,
+                    report.frequency_offset.0,
+                    report.rmse.0,
+                ],
+            );
+            print_word(report.count as u64);
+        }
+    }
+}
+
+// `fit_satellite INSTANTS POSITIONS SAMPLES FREQUENCIES OX OY OZ F0 MEASURED`: the refusal alone, or 0, three doubles and the count.
+fn fit_satellite(case: Case, wholes: &Wholes, doubles: &Doubles) -> bool {
+    let words = ten_doubles(doubles, case.fourth);
+    print_fit(orbit::fit_satellite(
+        wholes_in(wholes, 0, case.first),
+        doubles_in(doubles, case.first, case.second),
+        wholes_in(wholes, case.second, case.third),
+        doubles_in(doubles, case.third, case.fourth),
+        observer(words),
+        Hertz(words[3]),
+        Nanoseconds(whole_at(wholes, case.fourth, 4)),
+    ));
+    case.after_four == 5
+}
+
+// `pass INSTANTS POSITIONS SAMPLES FREQUENCIES OX OY OZ F0 LENGTH LENGTH`: the refusal, or 0, three doubles and the count; the areas follow.
+fn pass(
+    case: Case,
+    wholes: &Wholes,
+    doubles: &Doubles,
+    instant_area: &mut [i64],
+    frequency_area: &mut [f64],
+) -> bool {
+    let words = ten_doubles(doubles, case.fourth);
+    print_fit(orbit::pass(
+        wholes_in(wholes, 0, case.first),
+        doubles_in(doubles, case.first, case.second),
+        wholes_in(wholes, case.second, case.third),
+        doubles_in(doubles, case.third, case.fourth),
+        observer(words),
+        Hertz(words[3]),
+        instant_area,
+        frequency_area,
+    ));
+    case.after_four == 6
 }

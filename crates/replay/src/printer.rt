@@ -1,97 +1,42 @@
-// Answers as text. A line is put together in `out`: its first `waiting` bytes are still to be written, and each function says how many are after it.
+// Answers, put on standard output word by word, a blank before each.
 use crate::numbers::unsigned;
+use libc::STDOUT_FILENO;
 
-// Writes the bytes that wait to standard output; where that fails, it is said on standard error.
-pub(crate) fn write_out(out: &[u8], waiting: usize) {
-    if waiting <= out.len() {
-        if !io::write_all(libc::STDOUT_FILENO, &out[..waiting]) {
-            io::write_all(libc::STDERR_FILENO, b"replay: cannot write an answer\n");
-        }
-    }
+// Puts the 16 digits of a word.
+pub(crate) fn print_word(word: u64) {
+    io::write_all(STDOUT_FILENO, b" ");
+    io::print_hex(STDOUT_FILENO, word, 16);
 }
 
-// Puts one byte after those that wait; where there is no room, they are written out first.
-pub(crate) fn print_byte(out: &mut [u8], waiting: usize, byte: u8) -> usize {
-    let mut at = waiting;
-    if at >= out.len() {
-        write_out(out, at);
-        at = 0;
-    }
-    if at < out.len() {
-        out[at] = byte;
-        at += 1;
-    }
-    at
+// Puts a refusal, or 0, in decimal.
+pub(crate) fn print_refusal(refusal: u8) {
+    io::write_all(STDOUT_FILENO, b" ");
+    io::print_decimal(STDOUT_FILENO, refusal as u64);
 }
 
-// Puts bytes after those that wait.
-pub(crate) fn print_text(out: &mut [u8], waiting: usize, text: &[u8]) -> usize {
-    let mut at = waiting;
-    let mut i = 0;
-    while i < text.len() {
-        at = print_byte(out, at, text[i]);
-        i += 1;
-    }
-    at
-}
-
-// Puts a blank and the 16 digits of a word.
-pub(crate) fn print_word(out: &mut [u8], waiting: usize, word: u64) -> usize {
-    let mut digits = [0u8; 16];
-    let count = io::hex(word, 16, &mut digits);
-    let at = print_byte(out, waiting, b' ');
-    print_text(out, at, &digits[..count])
-}
-
-// Puts a blank and a whole number in decimal.
-pub(crate) fn print_decimal(out: &mut [u8], waiting: usize, n: u64) -> usize {
-    let mut digits = [0u8; 20];
-    let count = io::decimal(n, &mut digits);
-    let at = print_byte(out, waiting, b' ');
-    print_text(out, at, &digits[..count])
-}
-
-// Puts a signed number's two's complement as a word.
-pub(crate) fn print_signed(out: &mut [u8], waiting: usize, n: i64) -> usize {
-    print_word(out, waiting, unsigned(n))
-}
-
-// Puts a double's bits as a word, and a NaN as a blank and `nan`.
-pub(crate) fn print_double(out: &mut [u8], waiting: usize, x: f64) -> usize {
+// Puts a double's bits, and a NaN as `nan`.
+pub(crate) fn print_double(x: f64) {
     if x != x {
-        return print_text(out, waiting, b" nan");
+        io::write_all(STDOUT_FILENO, b" nan");
+        return;
     }
-    print_word(out, waiting, f64::to_bits(x))
+    print_word(f64::to_bits(x));
 }
 
 // Puts one double after the other.
-pub(crate) fn print_doubles(out: &mut [u8], waiting: usize, numbers: &[f64]) -> usize {
-    let mut at = waiting;
+pub(crate) fn print_doubles(numbers: &[f64]) {
     let mut i = 0;
     while i < numbers.len() {
-        at = print_double(out, at, numbers[i]);
+        print_double(numbers[i]);
         i += 1;
     }
-    at
 }
 
-// Puts one signed number after the other.
-pub(crate) fn print_instants(out: &mut [u8], waiting: usize, numbers: &[i64]) -> usize {
-    let mut at = waiting;
+// Puts the two's complement of one whole number after the other.
+pub(crate) fn print_wholes(numbers: &[i64]) {
     let mut i = 0;
     while i < numbers.len() {
-        at = print_signed(out, at, numbers[i]);
+        print_word(unsigned(numbers[i]));
         i += 1;
     }
-    at
-}
-
-// Ends the line.
-pub(crate) fn print_end(out: &mut [u8], waiting: usize) -> usize {
-    print_byte(out, waiting, b'\n')
-}
-
-// The whole answer to a line that is no case.
-pub(crate) fn bad_case(out: &mut [u8]) -> usize {
-    print_text(out, 0, b"bad case\n")
 }

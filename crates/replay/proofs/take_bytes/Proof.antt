@@ -1,18 +1,15 @@
--- The line's letters and words stay within their room, and the room stays as large as it was. Assumes nothing.
+-- The index stays within the bytes. Assumes nothing.
 use borrow.Author.Needs.{needs}
-use mathlib.Core.Path.{_≡_}
 use Prim.Native.Nat.{_-_, _≤_}
 use lib.ListN.{length}
 use Rattle.replay.proofs.take_bytes.Statement.{statement}
 use Rattle.replay.proofs.take_bytes.Tie as tie
 
 abbrev Inv-loop : tie.InvT-loop
-Inv-loop bytes name₀ words₀ out₀ so-far₀ i₀ name words out so-far i =
-    (i ≤ length bytes) × (so-far .letters ≤ length name) × (so-far .count ≤ length words)
-    × (length name ≡ length name₀) × (length words ≡ length words₀) × (length out ≡ length out₀)
+Inv-loop bytes name₀ wholes₀ doubles₀ so-far₀ i₀ name wholes doubles so-far i = i ≤ length bytes
 
 abbrev μ-loop : tie.MeasureT-loop
-μ-loop bytes name₀ words₀ out₀ so-far₀ i₀ name words out so-far i = length bytes - i
+μ-loop bytes name₀ wholes₀ doubles₀ so-far₀ i₀ name wholes doubles so-far i = length bytes - i
 
 loop-holds : tie.Need-loop-holds Inv-loop μ-loop
 loop-holds c = search needs
@@ -32,15 +29,6 @@ loop-less c = search needs
 loop-again : tie.Need-loop-again Inv-loop μ-loop
 loop-again c = search needs
 
-same-length : tie.Need-same-length Inv-loop μ-loop
-same-length c = search needs
-
-same-length-2 : tie.Need-same-length-2 Inv-loop μ-loop
-same-length-2 c = search needs
-
-same-length-3 : tie.Need-same-length-3 Inv-loop μ-loop
-same-length-3 c = search needs
-
 returns : tie.Need-returns Inv-loop μ-loop
 returns c = search needs
 
@@ -56,7 +44,4 @@ take-bytes-spec =
     add-i
     loop-less
     loop-again
-    same-length
-    same-length-2
-    same-length-3
     returns)

@@ -1,16 +1,15 @@
--- The index stays within the numbers, and `out` stays as long as it was. Assumes nothing.
+-- The index stays within the numbers. Assumes nothing.
 use borrow.Author.Needs.{needs}
-use mathlib.Core.Path.{_≡_}
 use Prim.Native.Nat.{_-_, _≤_}
 use lib.ListN.{length}
 use Rattle.replay.proofs.printer.print_doubles.Statement.{statement}
 use Rattle.replay.proofs.printer.print_doubles.Tie as tie
 
 abbrev Inv-loop : tie.InvT-loop
-Inv-loop out₀ waiting numbers at₀ i₀ out at i = (i ≤ length numbers) × (length out ≡ length out₀)
+Inv-loop numbers i₀ i = i ≤ length numbers
 
 abbrev μ-loop : tie.MeasureT-loop
-μ-loop out₀ waiting numbers at₀ i₀ out at i = length numbers - i
+μ-loop numbers i₀ i = length numbers - i
 
 loop-holds : tie.Need-loop-holds Inv-loop μ-loop
 loop-holds c = search needs
@@ -33,9 +32,6 @@ loop-less c = search needs
 loop-again : tie.Need-loop-again Inv-loop μ-loop
 loop-again c = search needs
 
-same-length : tie.Need-same-length Inv-loop μ-loop
-same-length c = search needs
-
 returns : tie.Need-returns Inv-loop μ-loop
 returns c = search needs
 
@@ -52,5 +48,4 @@ print-doubles-spec =
     add-i
     loop-less
     loop-again
-    same-length
     returns)
