@@ -1,41 +1,46 @@
-/* What the ten refusals of the library mean, in the words of include/orbit.h. */
+/* What the refusals of the library mean, in the words of include/orbit.h. */
 #include "refusals.h"
 
+#include <stddef.h>
+
 typedef struct {
+    uint8_t number;
     const char *wrong;
     const char *remedy;
 } refusal_text;
 
-/* Refusal 1 stands first. */
+/* In the order of their numbers. */
 static const refusal_text texts[] = {
-    {"fewer than 10 or more than 4,096 coordinates, or not three position numbers for each instant.",
+    {1, "fewer than 10 or more than 4,096 coordinates, or not three position numbers for each instant.",
      "lend a part of the table with 10 to 4,096 coordinates, and all three numbers of each."},
-    {"no sample, more than 4,096, or not one frequency for each instant.",
+    {2, "no sample, more than 4,096, or not one frequency for each instant.",
      "cut the recording into parts of at most 4,096 samples, each instant with its frequency."},
-    {"an area for the means is shorter than the recording.",
+    {3, "an area for the means is shorter than the recording.",
      "lend two areas at least as long as the recording."},
-    {"an instant is more than 4,000,000,000,000,000,000 ns (some 126 years) from 1970-01-01.",
+    {4, "an instant is more than 4,000,000,000,000,000,000 ns (some 126 years) from 1970-01-01.",
      "look for a wrong unit or a damaged instant; instants are nanoseconds."},
-    {"the coordinates' instants do not strictly rise.",
+    {5, "the coordinates' instants do not strictly rise.",
      "sort the table, and strike out coordinates that stand twice."},
-    {"a coordinate or the observer is not finite, has a component over 100,000,000 m, or all three under 1,000,000 m.",
+    {6, "a coordinate or the observer is not finite, has a component over 100,000,000 m, or all three under 1,000,000 m.",
      "give metres, not kilometres; strike out blank entries."},
-    {"a sample's frequency is not finite, or the centre frequency not finite or not above zero.",
+    {7, "a sample's frequency is not finite, or the centre frequency not finite or not above zero.",
      "strike out the sample, or set the centre frequency, in hertz."},
-    {"a column's pivot has a magnitude below 1e-12, so the matrix has no inverse that could be trusted.",
+    {8, "a column's pivot has a magnitude below 1e-12, so the matrix has no inverse that could be trusted.",
      "look for repeated or missing nodes; in a table, for coordinates that lie too close together or too far apart."},
-    {"no slope of the frequency is below zero, so the recording shows no approach.",
+    {9, "no slope of the frequency is below zero, so the recording shows no approach.",
      "take a recording that holds the closest approach, with at least three samples some milliseconds apart."},
-    {"no shift of the clock fits the recording.",
+    {10, "no shift of the clock fits the recording.",
      "look whether recording, table, observer and centre frequency belong to the same pass."},
 };
 
-static const refusal_text unknown = {"the library has no such refusal.", "look whether the library and refusals.c belong together."};
+static const refusal_text unknown = {0, "the library has no such refusal.", "look whether the library and refusals.c belong together."};
 
 static const refusal_text *text_of(uint8_t refusal)
 {
-    const unsigned count = sizeof texts / sizeof texts[0];
-    return refusal >= 1 && refusal <= count ? &texts[refusal - 1] : &unknown;
+    for (size_t k = 0; k < sizeof texts / sizeof texts[0]; k++)
+        if (texts[k].number == refusal)
+            return &texts[k];
+    return &unknown;
 }
 
 const char *what_is_wrong(uint8_t refusal)

@@ -1,10 +1,10 @@
-/* What the ten refusals of the library mean, in the words of include/orbit.h. */
+/* What the refusals of the library mean, in the words of include/orbit.h. */
 #ifndef REFUSALS_H
 #define REFUSALS_H
 
 #include <stdint.h>
 
-/* What is wrong, for a refusal from 1 to 10. */
+/* What is wrong, for the number of a refusal. */
 const char *what_is_wrong(uint8_t refusal);
 
 /* What to do about it. */

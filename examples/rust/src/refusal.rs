@@ -1,4 +1,4 @@
-//! What the ten refusals of the library mean, in the words of include/orbit.h.
+//! What the refusals of the library mean, in the words of include/orbit.h.
 
 use std::fmt;
 
@@ -19,8 +19,11 @@ pub enum Refusal {
 
 use Refusal::*;
 
-/// Every refusal, with what is wrong and what to do; refusal 1 stands first.
-const TEXTS: [(Refusal, &str, &str); 10] = [
+/// A refusal, what is wrong and what to do.
+type Text = (Refusal, &'static str, &'static str);
+
+/// Every refusal, in the order of their numbers.
+const TEXTS: &[Text] = &[
     (
         CoordinateCount,
         "fewer than 10 or more than 4,096 coordinates, or not three position numbers for each instant.",
@@ -74,7 +77,7 @@ const TEXTS: [(Refusal, &str, &str); 10] = [
 ];
 
 impl Refusal {
-    /// The refusal's number, 1 to 10.
+    /// The refusal's number.
     pub fn number(self) -> u8 {
         self as u8
     }
@@ -89,16 +92,21 @@ impl Refusal {
         self.texts().2
     }
 
-    fn texts(self) -> &'static (Refusal, &'static str, &'static str) {
-        &TEXTS[usize::from(self.number()) - 1]
+    fn texts(self) -> &'static Text {
+        Self::numbered(self.number()).expect("every refusal has its texts")
+    }
+
+    /// The texts of the refusal with this number.
+    fn numbered(number: u8) -> Option<&'static Text> {
+        TEXTS.iter().find(|text| text.0.number() == number)
     }
 
     /// The answer where the library gave the number 0, otherwise the refusal of that number.
     pub(crate) fn or<T>(number: u8, answer: T) -> Result<T, Refusal> {
-        match number {
-            0 => Ok(answer),
-            1..=10 => Err(TEXTS[usize::from(number) - 1].0),
-            _ => unreachable!("the library has no refusal {number}"),
+        match Self::numbered(number) {
+            None if number == 0 => Ok(answer),
+            None => unreachable!("the library has no refusal {number}"),
+            Some(text) => Err(text.0),
         }
     }
 }
