@@ -19,8 +19,8 @@ use Rattle.samples.specs.Means.{Sample, recording}
 use Rattle.samples.specs.Approach.{gapOf}
 use Rattle.orbit.specs.declared.stages.Stage.{Stage}
 use Rattle.orbit.specs.declared.fit.Report.{Report}
-use Rattle.orbit.specs.declared.fit.Fitted.{Fitted}
-use Rattle.orbit.specs.declared.fit.Fitted.the-variants.{Fit, Refused}
+use Rattle.orbit.specs.declared.fit.FitAnswer.{FitAnswer}
+use Rattle.orbit.specs.declared.fit.FitAnswer.the-variants.{Reported, Refused}
 use Rattle.orbit.specs.Closest.{closestInstant}
 use Rattle.orbit.specs.Residuals.{Inputs, Residual, residualOf, residuals, meanOver, deviation}
 
@@ -160,6 +160,6 @@ fitSatellite i ts fs measured =
     (fitOf i (recording ts fs) measured)
 
 -- the paper's number and values of each case of the answer
-abbrev pub fitIn : Fitted → Outcome Report
-fitIn (Fit r) = answered r
+abbrev pub fitIn : FitAnswer → Outcome Report
+fitIn (Reported r) = answered r
 fitIn (Refused n) = refused n

@@ -35,8 +35,8 @@ pub struct Report {
 }
 
 // The report, or the refusal (1 to 7, 10).
-pub enum Fitted {
-    Fit(Report),
+pub enum FitAnswer {
+    Reported(Report),
     Refused(u8),
 }
 
@@ -57,7 +57,7 @@ pub(crate) fn fit_about(
     settings: Settings,
     measured: Nanoseconds,
     values: &mut [f64],
-) -> Fitted
+) -> FitAnswer
     requires { ⌜ FitAreas (now instants) (now positions) (now samples) (now frequencies) (now values) × (natAbs (measured .0) ≤ farthestInstant) ⌝ }
     ensures { λ r. ⌜ fitIn r ≡ fitOf (inputsOf (now (instants .entry)) (now (positions .entry)) settings)
         (recording (now (samples .entry)) (now (frequencies .entry))) (measured .0)
@@ -81,7 +81,7 @@ pub(crate) fn fit_about(
         values,
     );
     if !(coarse.rmse.0 < LARGEST_FINITE) {
-        return Fitted::Refused(10);
+        return FitAnswer::Refused(10);
     }
     let best = refine(
         instants,
@@ -95,7 +95,7 @@ pub(crate) fn fit_about(
     let clock_offset = best.shift;
     let frequency_offset = best.offset;
     let rmse = best.rmse;
-    Fitted::Fit(Report {
+    FitAnswer::Reported(Report {
         clock_offset,
         frequency_offset,
         rmse,
@@ -112,7 +112,7 @@ pub fn fit_satellite(
     observer: Observer,
     f0: Hertz,
     measured: Nanoseconds,
-) -> Fitted
+) -> FitAnswer
     ensures { λ r. ⌜ fitIn r ≡ fitSatellite
         (inputsOf (now (instants .entry)) (now (positions .entry)) (settingsOf observer f0 evenTolerance))
         (now (samples .entry)) (now (frequencies .entry)) (measured .0)
@@ -128,7 +128,7 @@ pub fn fit_satellite(
         measured,
     );
     if refusal != 0 {
-        return Fitted::Refused(refusal);
+        return FitAnswer::Refused(refusal);
     }
     let settings = Settings {
         observer,

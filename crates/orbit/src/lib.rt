@@ -10,7 +10,7 @@ mod window;
 
 pub use closest::ClosestApproach;
 pub use closest::find_pca_time;
-pub use fit::Fitted;
+pub use fit::FitAnswer;
 pub use fit::Report;
 pub use fit::fit_satellite;
 pub use passes::pass;

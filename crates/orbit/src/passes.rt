@@ -9,7 +9,7 @@ ghost use Rattle.orbit.specs.Window.{evenTolerance};
 ghost use Rattle.orbit.specs.Residuals.{settingsOf, inputsOf};
 ghost use Rattle.orbit.specs.Fit.{fitOf, fitIn};
 ghost use Rattle.orbit.specs.Passes.{measuredBy, pass, passInstants, passFrequencies};
-use crate::fit::Fitted;
+use crate::fit::FitAnswer;
 use crate::fit::fit_about;
 use crate::settings::EVEN_TOLERANCE;
 use crate::settings::Settings;
@@ -55,7 +55,7 @@ fn fit_means(
     means: &[i64],
     frequencies: &[f64],
     settings: Settings,
-) -> Fitted
+) -> FitAnswer
     requires { ⌜ Table (now instants) (now positions) × Samples (now means) (now frequencies) ⌝ }
     ensures { λ r. ⌜ fitIn r ≡ fitOf (inputsOf (now (instants .entry)) (now (positions .entry)) settings)
         (recording (now (means .entry)) (now (frequencies .entry))) (measuredBy (now (means .entry)) (now (frequencies .entry)) .instant .0)
@@ -84,7 +84,7 @@ pub fn pass(
     f0: Hertz,
     mean_instants: &mut [i64],
     mean_frequencies: &mut [f64],
-) -> Fitted
+) -> FitAnswer
     ensures { λ r. ⌜ fitIn r ≡ pass
         (inputsOf (now (instants .entry)) (now (positions .entry)) (settingsOf observer f0 evenTolerance))
         (now (samples .entry)) (now (frequencies .entry)) (now («mean_instants» .entry)) (now («mean_frequencies» .entry))
@@ -109,7 +109,7 @@ pub fn pass(
         mean_frequencies,
     );
     if refusal != 0 {
-        return Fitted::Refused(refusal);
+        return FitAnswer::Refused(refusal);
     }
     let settings = Settings {
         observer,
@@ -125,6 +125,6 @@ pub fn pass(
             &mean_frequencies[..n],
             settings,
         ),
-        Downsampled::Refused(again) => Fitted::Refused(again),
+        Downsampled::Refused(again) => FitAnswer::Refused(again),
     }
 }

@@ -5,27 +5,27 @@ ghost use Rattle.orbit.specs.Fit.{fitSatellite, fitIn};
 ghost use Rattle.orbit.specs.Passes.{pass, passInstants, passFrequencies};
 ghost use Rattle.orbit.specs.declared.fit.Report.{Report};
 ghost use Rattle.orbit_abi.specs.Models.{inputsIn, reportNumbers};
-use orbit::Fitted;
+use orbit::FitAnswer;
 use units::Hertz;
 use units::Metres;
 use units::Nanoseconds;
 use units::Observer;
 
 // A report's three numbers and its count into their areas, or the refusal.
-fn fitted_into(found: Fitted, report: &mut [f64; 3], count: &mut u64) -> u8
+fn report_into(found: FitAnswer, report: &mut [f64; 3], count: &mut u64) -> u8
     ensures { λ r. ⌜ (r ≡ refusalIn (fitIn found))
         × (now (report .exit) ≡ areaOf reportNumbers (fitIn found) (now (report .entry)))
         × (now (count .exit) ≡ areaOf (λ (x : Report). x .count) (fitIn found) (now (count .entry)))
         ⌝ }
 {
     match found {
-        Fitted::Fit(f) => {
+        FitAnswer::Reported(f) => {
             let three = [f.clock_offset.0, f.frequency_offset.0, f.rmse.0];
             *report = three;
             *count = f.count as u64;
             0
         }
-        Fitted::Refused(refusal) => refusal,
+        FitAnswer::Refused(refusal) => refusal,
     }
 }
 
@@ -71,7 +71,7 @@ pub extern "C" fn orbit_fit_satellite(
         f0,
         measured,
     );
-    fitted_into(found, report, count)
+    report_into(found, report, count)
 }
 
 // Clock offset (seconds), frequency offset and RMSE (hertz) of a recording's one-second means, and how many means there are. The means go to the front
@@ -127,5 +127,5 @@ pub extern "C" fn orbit_pass(
         mean_instants,
         mean_frequencies,
     );
-    fitted_into(found, report, count)
+    report_into(found, report, count)
 }

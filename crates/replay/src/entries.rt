@@ -20,7 +20,7 @@ use crate::words::wholes_in;
 use check::same;
 use orbit::ChebyshevOrbit;
 use orbit::ClosestApproach;
-use orbit::Fitted;
+use orbit::FitAnswer;
 use orbit::Propagation;
 use samples::Approach;
 use samples::Downsampled;
@@ -278,10 +278,10 @@ fn steepest_slope(case: Case, wholes: &Wholes, doubles: &Doubles) -> bool {
 }
 
 // Puts a refusal, or 0, clock offset, frequency offset, RMSE and count.
-fn print_fit(fit: Fitted) {
+fn print_fit(fit: FitAnswer) {
     match fit {
-        Fitted::Refused(refusal) => print_refusal(refusal),
-        Fitted::Fit(report) => {
+        FitAnswer::Refused(refusal) => print_refusal(refusal),
+        FitAnswer::Reported(report) => {
             print_refusal(0);
             print_doubles(
                 &[

@@ -10,8 +10,8 @@ use Rattle.orbit_abi.proofs.fit_entries.orbit_fit_satellite.Tie as tie
 fit-satellite-requires : tie.Need-fit-satellite-requires
 fit-satellite-requires c κs = search needs
 
-fitted-into-requires : tie.Need-fitted-into-requires
-fitted-into-requires c κs = search needs
+report-into-requires : tie.Need-report-into-requires
+report-into-requires c κs = search needs
 
 returns : tie.Need-returns
 returns c =
@@ -20,11 +20,11 @@ returns c =
     let inputs = inputsIn (args .instants .now) (args .positions .now) (args .ox) (args .oy) (args .oz) (args .f0) in
     let fit = fitSatellite inputs (args .samples .now) (args .frequencies .now) (args .measured .0) in
     let found = fitIn (call .fit-satellite .result) in
-    let told = c .fitted-into .ensures in
+    let told = c .report-into .ensures in
     let here = call .fit-satellite .ensures in
     let numbers = given-as reportNumbers fit (args .report .now) found _ _ (told .0, told .1) here in
     let counted = given-as (λ (x : Report). x .count) fit (args .count .now) found _ _ (told .0, told .2) here in
     (numbers .0, (numbers .1, counted .1))
 
 pub orbit-fit-satellite-spec : {M : Type 1} → statement M
-orbit-fit-satellite-spec = tie.close (tie.spec fit-satellite-requires fitted-into-requires returns)
+orbit-fit-satellite-spec = tie.close (tie.spec fit-satellite-requires report-into-requires returns)

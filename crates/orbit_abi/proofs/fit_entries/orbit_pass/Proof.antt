@@ -11,8 +11,8 @@ use Rattle.orbit_abi.proofs.fit_entries.orbit_pass.Tie as tie
 pass-requires : tie.Need-pass-requires
 pass-requires c κs = search needs
 
-fitted-into-requires : tie.Need-fitted-into-requires
-fitted-into-requires c κs = search needs
+report-into-requires : tie.Need-report-into-requires
+report-into-requires c κs = search needs
 
 same-length : tie.Need-same-length
 same-length c = search needs
@@ -27,7 +27,7 @@ returns c =
     let inputs = inputsIn (args .instants .now) (args .positions .now) (args .ox) (args .oy) (args .oz) (args .f0) in
     let outcome = pass inputs (args .samples .now) (args .frequencies .now) (args .mean-instants .now) (args .mean-frequencies .now) in
     let found = fitIn (call .pass .result) in
-    let told = c .fitted-into .ensures in
+    let told = c .report-into .ensures in
     let here = call .pass .ensures in
     let numbers = given-as reportNumbers outcome (args .report .now) found _ _ (told .0, told .1) (here .0) in
     let counted = given-as (λ (x : Report). x .count) outcome (args .count .now) found _ _ (told .0, told .2) (here .0) in
@@ -35,4 +35,4 @@ returns c =
 
 pub orbit-pass-spec : {M : Type 1} → statement M
 orbit-pass-spec =
-    tie.close (tie.spec pass-requires fitted-into-requires same-length same-length-2 returns)
+    tie.close (tie.spec pass-requires report-into-requires same-length same-length-2 returns)

@@ -5,8 +5,8 @@ use Rattle.orbit.specs.declared.fit.Report.{Report}
 use Rattle.orbit_abi.specs.Models.{reportNumbers}
 use Rattle.orbit_abi.proofs.Outcomes.{answered-as}
 use borrow.Author.Needs.{needs}
-use Rattle.orbit_abi.proofs.fit_entries.fitted_into.Statement.{statement}
-use Rattle.orbit_abi.proofs.fit_entries.fitted_into.Tie as tie
+use Rattle.orbit_abi.proofs.fit_entries.report_into.Statement.{statement}
+use Rattle.orbit_abi.proofs.fit_entries.report_into.Tie as tie
 
 enum-known-found : tie.Need-enum-known-found
 enum-known-found c = search needs
@@ -26,5 +26,5 @@ returns c =
 returns-2 : tie.Need-returns-2
 returns-2 c = search needs
 
-pub fitted-into-spec : {M : Type 1} → statement M
-fitted-into-spec = tie.close (tie.spec enum-known-found enum-known-found-2 returns returns-2)
+pub report-into-spec : {M : Type 1} → statement M
+report-into-spec = tie.close (tie.spec enum-known-found enum-known-found-2 returns returns-2)
