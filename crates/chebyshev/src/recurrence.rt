@@ -63,11 +63,8 @@ pub struct Evaluation {
 pub fn evaluate_chebyshev(c: [f64; 10], tau: f64) -> Evaluation
     ensures { λ r. ⌜ (r .value ≡ valueOf rounded c tau) × (r .slope ≡ slopeOf rounded c tau) ⌝ }
 {
-    let p = polynomials_at(tau);
-    let values = p.values;
-    let slopes = p.slopes;
-    Evaluation {
-        value: weighted_sum(c, values),
-        slope: weighted_sum(c, slopes),
-    }
+    let t = values_at(tau);
+    let value = weighted_sum(c, t);
+    let slope = weighted_sum(c, slopes_from(tau, t));
+    Evaluation { value, slope }
 }

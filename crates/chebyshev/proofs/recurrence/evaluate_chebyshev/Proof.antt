@@ -5,26 +5,33 @@ use borrow.Author.Needs.{needs}
 use Rattle.chebyshev.proofs.recurrence.evaluate_chebyshev.Statement.{statement}
 use Rattle.chebyshev.proofs.recurrence.evaluate_chebyshev.Tie as tie
 
-polynomials-at-requires : tie.Need-polynomials-at-requires
-polynomials-at-requires c κs = search needs
+values-at-requires : tie.Need-values-at-requires
+values-at-requires c κs = search needs
 
 weighted-sum-requires : tie.Need-weighted-sum-requires
 weighted-sum-requires c κs = search needs
+
+slopes-from-requires : tie.Need-slopes-from-requires
+slopes-from-requires c κs = c .before .values-at .ensures
 
 weighted-sum-requires-2 : tie.Need-weighted-sum-requires-2
 weighted-sum-requires-2 c κs = search needs
 
 returns : tie.Need-returns
 returns c =
-    let p = c .before .before .before .before .polynomials-at .ensures in
-    let coefficients = c .before .before .before .before .before .args .c in
-    (c .before .weighted-sum .ensures ∙ ap (weighted rounded coefficients) (p .0), c .weighted-sum2 .ensures ∙ ap (weighted rounded coefficients) (p .1))
+    let summed = c .before .before in
+    let row = summed .before in
+    let coefficients = row .before .args .c in (
+      summed .weighted-sum .ensures ∙ ap (weighted rounded coefficients) (row .values-at .ensures),
+      c .weighted-sum2 .ensures ∙ ap (weighted rounded coefficients) (c .before .slopes-from .ensures),
+    )
 
 pub evaluate-chebyshev-spec : {M : Type 1} → statement M
 evaluate-chebyshev-spec =
     tie.close
     (tie.spec
-    polynomials-at-requires
+    values-at-requires
     weighted-sum-requires
+    slopes-from-requires
     weighted-sum-requires-2
     returns)
