@@ -24,7 +24,7 @@ use Rattle.orbit.specs.declared.fit.Report.{Report}
 use Rattle.orbit.proofs.Models.{inversion-eight}
 use Rattle.orbit.specs.Window.{windowSeconds, windowStart, inversionOf, modelOr}
 use Rattle.orbit.specs.Propagation.{Motion, motionAt}
-use Rattle.orbit.specs.Fit.{trial, usable, coarse, shifts, basisOf, reportOfTrial, fitOf}
+use Rattle.orbit.specs.Fit.{trial, usable, coarse, shifts, basisOf, reportOfTrial, fitOf, noneUsableRefusal}
 use Rattle.orbit.specs.Residuals.{Inputs, propagatedBy, moved, residualIn, residualOf, keep, residuals}
 use Rattle.orbit.specs.Passes.{approachOr, middleOf, measuredOf, passOutcome, passRefusal, pass}
 use Rattle.orbit.specs.Demand3.{NoCoarse, tried, measuredFor, centreFor, shiftsFor, triedAt, CentreIs, positioned, propagates, howMany, rmseFor, Usable, ShiftsAre, Fields, Choice, Demand3, Call, TwoCalls}
@@ -125,7 +125,7 @@ module _ (i : Inputs) (S : List Sample) where
   }
 
   -- so there is exactly one
-  one-choice : passOutcome i S ≢ refused 10 → (k : ℕ) × Choice i S k × ((j : ℕ) → Choice i S j → j ≡ k)
+  one-choice : passOutcome i S ≢ refused noneUsableRefusal → (k : ℕ) × Choice i S k × ((j : ℕ) → Choice i S j → j ≡ k)
   one-choice ne = let r = exactly-one (tried i S) (basisOf (means S)) (centreFor i S) ne in (r .0, choice-of (r .0) (r .1), λ j c. r .2 j (chosen-of j c))
 
   -- the fields of the report of a shift
@@ -184,13 +184,13 @@ module _ (i : Inputs) (ts : List ℤ) (fs : List Float) (a : List ℤ) (b : List
       }
 
   -- a call answers 10 exactly when it passes checks 1 to 7 and no coarse shift is usable
-  pub ten-exactly : (pass i ts fs a b ≡ refused 10) ↔ ((passRefusal i ts fs a b ≡ 0) × NoCoarse (tried i (recording ts fs)) (centreFor i (recording ts fs)))
+  pub ten-exactly : (pass i ts fs a b ≡ refused noneUsableRefusal) ↔ ((passRefusal i ts fs a b ≡ 0) × NoCoarse (tried i (recording ts fs)) (centreFor i (recording ts fs)))
   ten-exactly = (
     λ e. let r = go (passRefusal i ts fs a b) (pass-never-ten (i .instants) (i .positions) ts fs (i .settings .observer) (i .settings .f0) a b) e in (r .0, demand-3 i (recording ts fs) .refusal .0 (r .1)),
     λ h. one-call (h .0) .outcome-is ∙ demand-3 i (recording ts fs) .refusal .1 (h .1),
   )
     where
-      go : (k : ℕ) → (k ≡ 10 → ⊥) → unlessRefused k (passOutcome i (recording ts fs)) ≡ refused 10 → (k ≡ 0) × (passOutcome i (recording ts fs) ≡ refused 10)
+      go : (k : ℕ) → (k ≡ 10 → ⊥) → unlessRefused k (passOutcome i (recording ts fs)) ≡ refused noneUsableRefusal → (k ≡ 0) × (passOutcome i (recording ts fs) ≡ refused noneUsableRefusal)
       go zero never e = (refl, e)
       go (suc k) never e = absurd (never (cc))
 

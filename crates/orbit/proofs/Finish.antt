@@ -18,7 +18,7 @@ use Rattle.float.proofs.Bounds.{sub-within}
 use Rattle.orbit.specs.declared.stages.Stage.{Stage}
 use Rattle.orbit.specs.declared.stages.LeastSoFar.{LeastSoFar}
 use Rattle.orbit.specs.Bounds.{FitAreas, SmallStage, farthestCentre, farthestCoarse, farthestStart, farthestFine}
-use Rattle.orbit.specs.Fit.{Trial, Best, noneYet, found, firstLeast, shiftsOf, coarseStage, fineStage, microStage, coarse, Basis, reportOfBest, fitByTrials}
+use Rattle.orbit.specs.Fit.{Trial, Best, noneYet, found, firstLeast, shiftsOf, coarseStage, fineStage, microStage, coarse, Basis, reportOfBest, fitByTrials, noneUsableRefusal}
 use Rattle.orbit.specs.Stages.{stateOf, state, updates, afterStage, afterCoarse, afterFurther, refined, reportOfState, finished}
 use Rattle.orbit.proofs.Shifts.{weaken}
 use Rattle.orbit.proofs.Updates.{state-search, updates-append, Below, below-least, stage-kept}
@@ -70,7 +70,7 @@ module _ (try : Float → Trial) where
   finish-is basis noneYet h = refl
   finish-is basis (found t) h = both-stages basis t ∙ go (lt (t .rmse) largestFinite) h
     where
-      go : (v : Bool) → T v → answered (reportOfState basis (refined try (stateOf t))) ≡ cond v (answered (reportOfState basis (refined try (stateOf t)))) (refused 10)
+      go : (v : Bool) → T v → answered (reportOfState basis (refined try (stateOf t))) ≡ cond v (answered (reportOfState basis (refined try (stateOf t)))) (refused noneUsableRefusal)
       go true h = refl
       go false h = absurd h
 

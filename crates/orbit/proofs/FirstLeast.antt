@@ -18,7 +18,7 @@ use Rattle.float.proofs.Leasts.{and-not, least-first}
 use Rattle.common.specs.Outcome.{refused, answered}
 use Rattle.common.specs.Numbers.{largestFinite}
 use Rattle.orbit.specs.Demand3.{place, Wins, NoCoarse}
-use Rattle.orbit.specs.Fit.{Trial, usable, Best, noneYet, found, rmseOf, enoughOf, smaller, firstLeast, coarse, further, coarseFine, shifts, Basis, reportOfTrial, reportOfBest, fitByTrials}
+use Rattle.orbit.specs.Fit.{Trial, usable, Best, noneYet, found, rmseOf, enoughOf, smaller, firstLeast, coarse, further, coarseFine, shifts, Basis, reportOfTrial, reportOfBest, fitByTrials, noneUsableRefusal}
 use Rattle.orbit.specs.declared.stages.Stage.{Stage}
 
 -- a smaller RMSE compares as the search asks
@@ -123,14 +123,14 @@ module _ (try : Float → Trial) (basis : Basis) (centre : Float) where
   -- ---- the outcome
 
   -- refusal 10 exactly when no coarse shift is usable
-  pub refused-exactly : (fitByTrials try basis centre ≡ refused 10) ↔ NoCoarse try centre
+  pub refused-exactly : (fitByTrials try basis centre ≡ refused noneUsableRefusal) ↔ NoCoarse try centre
   unfolding fitByTrials
   refused-exactly = (λ e. forth (firstLeast try (coarse centre)) refl e (first-least try (coarse centre)), λ none. ap (reportOfBest basis) (none-in-the-end (none-found try (coarse centre) none)))
     where
-      answers : (u : Trial) → firstLeast try (shifts try centre) ≡ found u → fitByTrials try basis centre ≡ refused 10 → ⊥
+      answers : (u : Trial) → firstLeast try (shifts try centre) ≡ found u → fitByTrials try basis centre ≡ refused noneUsableRefusal → ⊥
       answers u p q = let z : _≡_ {A = ℕ} 0 1 = cc (ap (reportOfBest basis) p) in omega arith
 
-      forth : (b : Best) → firstLeast try (coarse centre) ≡ b → fitByTrials try basis centre ≡ refused 10 → After (place try (coarse centre)) (length (coarse centre)) b → NoCoarse try centre
+      forth : (b : Best) → firstLeast try (coarse centre) ≡ b → fitByTrials try basis centre ≡ refused noneUsableRefusal → After (place try (coarse centre)) (length (coarse centre)) b → NoCoarse try centre
       forth noneYet p e a = a
       forth (found x) p e a = let r = in-the-end x p in absurd (answers (r .0) (r .1) e)
 
@@ -140,7 +140,7 @@ module _ (try : Float → Trial) (basis : Basis) (centre : Float) where
     pub reported : fitByTrials try basis centre ≡ answered (reportOfTrial basis (place try (shifts try centre) i))
 
   -- otherwise there is exactly one such place
-  pub exactly-one : fitByTrials try basis centre ≢ refused 10 → (i : ℕ) × Chosen i × ((k : ℕ) → Chosen k → k ≡ i)
+  pub exactly-one : fitByTrials try basis centre ≢ refused noneUsableRefusal → (i : ℕ) × Chosen i × ((k : ℕ) → Chosen k → k ≡ i)
   unfolding fitByTrials
   exactly-one ne = go (firstLeast try (shifts try centre)) refl (first-least try (shifts try centre))
     where

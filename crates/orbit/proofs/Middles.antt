@@ -10,7 +10,7 @@ use lib.Seq.{take-append-seam}
 use lib.Ieee.{Float, lt}
 use Rattle.common.specs.Outcome.{Outcome, refused, answered, written}
 use Rattle.samples.specs.Means.{Sample, recording, means, instants, frequencies}
-use Rattle.samples.specs.Approach.{noFloor, leastSlope}
+use Rattle.samples.specs.Approach.{noFloor, leastSlope, noFallRefusal}
 use Rattle.samples.proofs.Seconds.{some-means, few-means}
 use Rattle.samples.proofs.OwnSeconds.{limited-means}
 use Rattle.samples.specs.Runs.{Limited}
@@ -23,7 +23,7 @@ use Rattle.checks.specs.Limits.{farthestInstant}
 pub measured-near : (ts : List ℤ) (fs : List Float) → ((k : ℕ) → natAbs (getD ts k (pos 0)) ≤ farthestInstant) → natAbs (measuredBy ts fs .instant .0) ≤ farthestInstant
 measured-near ts fs h = go (lt (leastSlope noFloor ts fs .slope) nought)
   where
-    go : (b : Bool) → natAbs (approachOr (middleOf ts) (cond b (answered (getD ts (leastSlope noFloor ts fs .middle) (pos 0))) (refused 9)) .instant .0) ≤ farthestInstant
+    go : (b : Bool) → natAbs (approachOr (middleOf ts) (cond b (answered (getD ts (leastSlope noFloor ts fs .middle) (pos 0))) (refused noFallRefusal)) .instant .0) ≤ farthestInstant
     go true = h (leastSlope noFloor ts fs .middle)
     go false = h (length ts / 2)
 

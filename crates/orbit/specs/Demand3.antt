@@ -23,7 +23,7 @@ use Rattle.orbit.specs.declared.closest.LeastRange.{LeastRange}
 use Rattle.orbit.specs.declared.closest.Offsets.{Offsets}
 use Rattle.orbit.specs.Propagation.{Motion}
 use Rattle.orbit.specs.Closest.{movedBySeconds, nearer, centred, minutes, secondsAbout, rangedAt, byMinutes, bySeconds}
-use Rattle.orbit.specs.Fit.{Trial, trial, usable, shiftsOf, coarseStage, fineStage, microStage, coarse, coarseFine, shifts}
+use Rattle.orbit.specs.Fit.{Trial, trial, usable, shiftsOf, coarseStage, fineStage, microStage, coarse, coarseFine, shifts, noneUsableRefusal}
 use Rattle.orbit.specs.Fit.{basisOf, reportOfTrial, predictedBy, centreOf}
 use Rattle.orbit.specs.Residuals.{Inputs, propagatedBy, moved, residualOf, residuals, meanOver, deviation}
 use Rattle.orbit.specs.Passes.{middleOf, measuredOf, passOutcome, pass, passInstants, passFrequencies}
@@ -219,8 +219,8 @@ pub record Demand3 (i : Inputs) (S : List Sample) : Type 0 where
   pub centre : CentreIs i S
   pub usable : Usable i S
   pub shifts : ShiftsAre i S
-  pub refusal : (passOutcome i S ≡ refused 10) ↔ NoCoarseFor i S
-  pub choice : passOutcome i S ≢ refused 10 → (k : ℕ) × Choice i S k × ((j : ℕ) → Choice i S j → j ≡ k)
+  pub refusal : (passOutcome i S ≡ refused noneUsableRefusal) ↔ NoCoarseFor i S
+  pub choice : passOutcome i S ≢ refused noneUsableRefusal → (k : ℕ) × Choice i S k × ((j : ℕ) → Choice i S j → j ≡ k)
   pub reports : (k : ℕ) → Choice i S k → (r : Report) → passOutcome i S ≡ answered r → Fields i S (getD (shiftsFor i S) k nan) r
   pub alone : (S′ : List Sample) → Alike S S′ → (means S ≡ means S′) × (passOutcome i S ≡ passOutcome i S′)
 

@@ -130,9 +130,13 @@ reportOf basis shift offset rmse = record {
 abbrev pub reportOfTrial : Basis → Trial → Report
 reportOfTrial basis t = reportOf basis (t .shift) (t .offset) (t .rmse)
 
--- the report of the best; 10 where there is none: "No coarse candidate is usable"
+-- 10. "No coarse candidate is usable"
+abbrev pub noneUsableRefusal : ℕ
+noneUsableRefusal = 10
+
+-- the report of the best, refused where there is none
 abbrev pub reportOfBest : Basis → Best → Outcome Report
-reportOfBest basis noneYet = refused 10
+reportOfBest basis noneYet = refused noneUsableRefusal
 reportOfBest basis (found t) = answered (reportOfTrial basis t)
 
 -- the fit by the trials of samples about a centre

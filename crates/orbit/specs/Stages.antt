@@ -11,7 +11,7 @@ use Rattle.orbit.specs.declared.stages.Stage.{Stage}
 use Rattle.orbit.specs.declared.stages.LeastSoFar.{LeastSoFar}
 use Rattle.orbit.specs.declared.fit.Report.{Report}
 use Rattle.orbit.specs.Residuals.{inputsOf, residualOf}
-use Rattle.orbit.specs.Fit.{Trial, trial, Best, noneYet, found, shiftsOf, fineStage, microStage, coarse, Basis, reportOf}
+use Rattle.orbit.specs.Fit.{Trial, trial, Best, noneYet, found, shiftsOf, fineStage, microStage, coarse, Basis, reportOf, noneUsableRefusal}
 
 -- the trial of a shift, by what the inner functions are given
 abbrev pub trialBy : List ℤ → List Float → List ℤ → List Float → Settings → Float → Trial
@@ -58,4 +58,4 @@ module _ (try : Float → Trial) where
 
   -- after the coarse stage: those two and the report, or refusal 10 where the RMSE is still the largest finite double
   abbrev pub finished : Basis → LeastSoFar → Outcome Report
-  finished basis s = cond (lt (s .rmse .0) largestFinite) (answered (reportOfState basis (refined s))) (refused 10)
+  finished basis s = cond (lt (s .rmse .0) largestFinite) (answered (reportOfState basis (refined s))) (refused noneUsableRefusal)

@@ -16,7 +16,7 @@ use Rattle.orbit.proofs.Models.{inversion-told}
 use Rattle.common.specs.Outcome.{Told, mapped, Outcome, refused, answered, outcome, unlessRefused, refusalIn}
 use Rattle.checks.specs.Entries.{firstFailing, evaluationChecks, propagationChecks, closestChecks, samplesChecks, fitChecks}
 use Rattle.samples.specs.Means.{recording, means, downsampleRefusal, downsampleData}
-use Rattle.samples.specs.Approach.{noFloor, slopeFloor, leastSlope, approachOf, estimateMeasuredPcaTime, steepestSlope}
+use Rattle.samples.specs.Approach.{noFloor, slopeFloor, leastSlope, approachOf, estimateMeasuredPcaTime, steepestSlope, noFallRefusal}
 use Rattle.orbit.specs.declared.window.ChebyshevOrbit.{ChebyshevOrbit}
 use Rattle.orbit.specs.Window.{evenTolerance, windowStart, windowSeconds, inversionOf, modelAbout, getChebyshevModel}
 use Rattle.orbit.specs.Propagation.{motionAt, evaluate, propagateEcef}
@@ -46,7 +46,7 @@ by-answer f (refused zero) t = t
 by-answer f (refused (suc n)) t = tt
 by-answer f (answered a) t = tt
 
-by-slope : (b : Bool) (t : ℤ) → Told (cond b (answered t) (refused 9))
+by-slope : (b : Bool) (t : ℤ) → Told (cond b (answered t) (refused noFallRefusal))
 by-slope true t = tt
 by-slope false t = tt
 

@@ -18,7 +18,7 @@ use Rattle.common.proofs.Search.{first-of-best}
 use Rattle.float.proofs.Leasts.{least-first}
 use Rattle.common.specs.Outcome.{Outcome, refused, answered}
 use Rattle.samples.specs.declared.approach.LeastSlope.{LeastSlope}
-use Rattle.samples.specs.Approach.{noFloor, gapAt, slopeAt, sloped, counts, steeper, noSlopeYet, leastSlope, approachOf, Falls, FirstFall}
+use Rattle.samples.specs.Approach.{noFloor, gapAt, slopeAt, sloped, counts, steeper, noSlopeYet, leastSlope, approachOf, Falls, FirstFall, noFallRefusal}
 use Rattle.samples.proofs.Slopes.{rest-start}
 
 -- at any floor: slope +0.0 where no sample that counts has a slope below zero, else the first of the least
@@ -81,36 +81,36 @@ module _ (ts : List ℤ) (fs : List Float) where
 
   -- the answer by the best
   abbrev answerBy : LeastSlope → Outcome ℤ
-  answerBy s = cond (lt (s .slope) nought) (answered (getD ts (s .middle) (pos 0))) (refused 9)
+  answerBy s = cond (lt (s .slope) nought) (answered (getD ts (s .middle) (pos 0))) (refused noFallRefusal)
 
-  if-kept : leastSlope noFloor ts fs ≡ noSlopeYet → approachOf ts fs ≡ refused 9
+  if-kept : leastSlope noFloor ts fs ≡ noSlopeYet → approachOf ts fs ≡ refused noFallRefusal
   unfolding lt
   if-kept e = ap answerBy e
 
   if-won : (i : ℕ) → leastSlope noFloor ts fs ≡ sloped ts fs i → T (lt (slopeAt ts fs i) nought) → approachOf ts fs ≡ answered (getD ts i (pos 0))
   if-won i e h = ap answerBy e ∙ go (lt (slopeAt ts fs i) nought) h
     where
-      go : (v : Bool) → T v → cond v (answered (getD ts i (pos 0))) (refused 9) ≡ answered (getD ts i (pos 0))
+      go : (v : Bool) → T v → cond v (answered (getD ts i (pos 0))) (refused noFallRefusal) ≡ answered (getD ts i (pos 0))
       go true h = refl
       go false h = absurd h
 
   -- "No slope below zero was found": 9 exactly where the frequency falls about no sample
-  pub nine-exactly : (approachOf ts fs ≡ refused 9) ↔ ((j : ℕ) → Falls ts fs j → ⊥)
+  pub nine-exactly : (approachOf ts fs ≡ refused noFallRefusal) ↔ ((j : ℕ) → Falls ts fs j → ⊥)
   nine-exactly = (forth (first-slope noFloor ts fs), back (first-slope noFloor ts fs))
     where
-      forth : Searched (steeper noFloor ts) noSlopeYet (sloped ts fs) 1 (length ts - 1) (leastSlope noFloor ts fs) → approachOf ts fs ≡ refused 9 → (j : ℕ) → Falls ts fs j → ⊥
+      forth : Searched (steeper noFloor ts) noSlopeYet (sloped ts fs) 1 (length ts - 1) (leastSlope noFloor ts fs) → approachOf ts fs ≡ refused noFallRefusal → (j : ℕ) → Falls ts fs j → ⊥
       forth (kept p none) e j g = T-not (steeper noFloor ts (sloped ts fs j) noSlopeYet) (none j (g .after) (omega (arith, g .before))) (falls-beats j g)
       forth (won i p f) e j g =
           let q = if-won i p (first-falls i f .falls .falling) in
           let z : _≡_ {A = ℕ} 0 1 = cc in
           omega arith
 
-      back : Searched (steeper noFloor ts) noSlopeYet (sloped ts fs) 1 (length ts - 1) (leastSlope noFloor ts fs) → ((j : ℕ) → Falls ts fs j → ⊥) → approachOf ts fs ≡ refused 9
+      back : Searched (steeper noFloor ts) noSlopeYet (sloped ts fs) 1 (length ts - 1) (leastSlope noFloor ts fs) → ((j : ℕ) → Falls ts fs j → ⊥) → approachOf ts fs ≡ refused noFallRefusal
       back (kept p none) no-fall = if-kept p
       back (won i p f) no-fall = absurd (no-fall i (first-falls i f .falls))
 
   -- "the first least below zero gives its middle sample's instant": otherwise one sample is the first of the least, and the answer is its instant
-  pub first-approach : approachOf ts fs ≢ refused 9 → (i : ℕ) × FirstFall ts fs i × (approachOf ts fs ≡ answered (getD ts i (pos 0))) × ((k : ℕ) → FirstFall ts fs k → k ≡ i)
+  pub first-approach : approachOf ts fs ≢ refused noFallRefusal → (i : ℕ) × FirstFall ts fs i × (approachOf ts fs ≡ answered (getD ts i (pos 0))) × ((k : ℕ) → FirstFall ts fs k → k ≡ i)
   first-approach ne = go (first-slope noFloor ts fs)
     where
       go : Searched (steeper noFloor ts) noSlopeYet (sloped ts fs) 1 (length ts - 1) (leastSlope noFloor ts fs) → (i : ℕ) × FirstFall ts fs i × (approachOf ts fs ≡ answered (getD ts i (pos 0))) × ((k : ℕ) → FirstFall ts fs k → k ≡ i)

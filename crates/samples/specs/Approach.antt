@@ -63,9 +63,13 @@ noSlopeYet = record { slope = nought; middle = 0 }
 abbrev pub leastSlope : Float → List ℤ → List Float → LeastSlope
 leastSlope floor ts fs = firstBest (steeper floor ts) noSlopeYet (listOf (sloped ts fs) (length ts - 2) 1)
 
+-- 9. "No slope below zero was found"
+abbrev pub noFallRefusal : ℕ
+noFallRefusal = 9
+
 -- "the first least below zero gives its middle sample's instant", in nanoseconds; 9 where no slope below zero was found
 abbrev pub approachOf : List ℤ → List Float → Outcome ℤ
-approachOf ts fs = let best = leastSlope noFloor ts fs in cond (lt (best .slope) nought) (answered (getD ts (best .middle) (pos 0))) (refused 9)
+approachOf ts fs = let best = leastSlope noFloor ts fs in cond (lt (best .slope) nought) (answered (getD ts (best .middle) (pos 0))) (refused noFallRefusal)
 
 -- ---- the entries: checks 2 and 4 first
 

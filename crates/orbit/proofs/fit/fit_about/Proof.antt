@@ -17,7 +17,7 @@ use Rattle.orbit.specs.declared.stages.LeastSoFar.{LeastSoFar}
 use Rattle.orbit.specs.declared.fit.Report.{Report}
 use Rattle.orbit.specs.Bounds.{farthestCentre, farthestCoarse}
 use Rattle.orbit.specs.Residuals.{inputsOf}
-use Rattle.orbit.specs.Fit.{Trial, Basis, centreOf, fitByTrials, fitOf}
+use Rattle.orbit.specs.Fit.{Trial, Basis, centreOf, fitByTrials, fitOf, noneUsableRefusal}
 use Rattle.orbit.specs.Stages.{trialBy, afterCoarse, refined, reportOfState, finished}
 use Rattle.orbit.proofs.Trials.{shift-is}
 use Rattle.orbit.proofs.Centre.{predicted-near, centre-small}
@@ -83,7 +83,7 @@ answer-is c =
 
 -- the report of the least so far where a coarse shift is usable, and else refusal 10
 abbrev choice-of : tie.After-coarse-stage → Bool → Outcome Report
-choice-of c b = let s = start-of c in cond b (answered (reportOfState (basis-of (length (s .args .samples .now))) (refined (try-of s) (c .coarse-stage .result)))) (refused 10)
+choice-of c b = let s = start-of c in cond b (answered (reportOfState (basis-of (length (s .args .samples .now))) (refined (try-of s) (c .coarse-stage .result)))) (refused noneUsableRefusal)
 
 returns : tie.Need-returns
 unfolding ofBits
