@@ -26,6 +26,7 @@ mod ours;
 mod tally;
 mod timing;
 
+use std::env;
 use std::process::ExitCode;
 use tally::Total;
 use timing::Row;
@@ -47,14 +48,22 @@ const GROUPS: &[Group] = &[
     (fit::compare, fit::time),
 ];
 
+/// Compares all groups and times them; with `--times` it only times them, and compares nothing.
 fn main() -> ExitCode {
+    let times_alone = env::args().skip(1).any(|word| word == "--times");
     let mut total = Total::default();
-    for (compare, _) in GROUPS {
-        compare(&mut total);
+    if !times_alone {
+        for (compare, _) in GROUPS {
+            compare(&mut total);
+        }
     }
     let rows: Vec<Row> = GROUPS.iter().flat_map(|(_, time)| time()).collect();
     timing::print(&rows);
 
-    println!("compare: {total}");
+    if times_alone {
+        println!("compare: timed alone, nothing compared");
+    } else {
+        println!("compare: {total}");
+    }
     ExitCode::from(u8::from(total.differing > 0))
 }
