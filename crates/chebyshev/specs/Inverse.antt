@@ -5,7 +5,8 @@ use mathlib.Core.Bool.{Bool, true, false, cond}
 use mathlib.Core.List.{List, [], _∷_}
 use lib.Dec.{eqb}
 use lib.ListN.{getD, set, replicate}
-use lib.Ieee.{Float, nan, binary64, lt, ofBits}
+use lib.IntN.{negsuc}
+use lib.Ieee.{Float, nan, fin, lt}
 use Rattle.common.specs.Rounded.{_⊖_, _⊗_, _⊘_}
 use Rattle.common.specs.Numbers.{nought, one}
 use Rattle.float.specs.Signs.{magnitudeOf}
@@ -28,7 +29,7 @@ order = 10
 
 -- 1e-12, the smallest pivot that is taken: 4951760157141521 / 2 ^ 92
 abbrev pub leastPivot : Float
-leastPivot = ofBits binary64 4427486594234968593
+leastPivot = fin false 4951760157141521 (negsuc 91)
 
 -- the refusal of a singular matrix
 abbrev pub singularRefusal : ℕ
@@ -126,3 +127,7 @@ rowsOf (answered v) = v
 abbrev pub answerOf : Outcome Matrix → Inverse
 answerOf (refused n) = record { refusal = n; numbers = replicate (order * order) nought }
 answerOf (answered v) = record { refusal = 0; numbers = flat v }
+
+-- the entry: the inverse of a, or 8
+abbrev pub invertMatrix10 : Matrix → Inverse
+invertMatrix10 a = answerOf (inverted a)

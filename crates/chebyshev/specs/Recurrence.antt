@@ -6,6 +6,7 @@ use lib.Ieee.{Float}
 use Rattle.common.specs.Rounded.{_⊕_, _⊖_, _⊗_}
 use Rattle.common.specs.Numbers as Numbers
 use Rattle.common.specs.Lists.{listOf}
+use Rattle.chebyshev.specs.declared.recurrence.Evaluation.{Evaluation}
 
 -- what the recurrence needs of a number
 pub record Arithmetic (A : Type 0) : Type 0 where
@@ -69,3 +70,7 @@ rounded = record {
   less = _⊖_;
   times = _⊗_;
 }
+
+-- the entry: the sum of doubles with the coefficients c at τ, and its slope
+abbrev pub evaluateChebyshev : List Float → Float → Evaluation
+evaluateChebyshev c τ = record { value = valueOf rounded c τ; slope = slopeOf rounded c τ }

@@ -3,7 +3,7 @@ ghost use mathlib.Core.Path.{_≡_};
 ghost use Prim.Native.Nat.{_<_};
 ghost use lib.ListN.{length};
 ghost use Rattle.common.specs.Outcome.{refusalIn};
-ghost use Rattle.chebyshev.specs.Inverse.{exchanged, divided, reduced, pivotRow, scaledAt, column, clearedBy, flat, inverted, rowsOf, answerOf};
+ghost use Rattle.chebyshev.specs.Inverse.{exchanged, divided, reduced, pivotRow, scaledAt, column, clearedBy, flat, inverted, rowsOf, invertMatrix10};
 ghost use Rattle.chebyshev.specs.Steps.{Cleared, RowPut};
 use float::magnitude;
 
@@ -180,7 +180,7 @@ pub struct Inverse {
 
 // The inverse of a. Refused by 8 where a column's pivot has a magnitude below 1e-12.
 pub fn invert_matrix_10(a: [[f64; 10]; 10]) -> Inverse
-    ensures { λ r. ⌜ r ≡ answerOf (inverted a) ⌝ }
+    ensures { λ r. ⌜ r ≡ invertMatrix10 a ⌝ }
 {
     let mut refusal = 0u8;
     let rows = gauss_jordan(a, &mut refusal);

@@ -1,6 +1,6 @@
 // The first ten Chebyshev polynomials at τ, their derivatives, and a sum of them. One function serves x, y and z.
 ghost use mathlib.Core.Path.{_≡_};
-ghost use Rattle.chebyshev.specs.Recurrence.{rounded, polynomials, derivatives, weighted, valueOf, slopeOf};
+ghost use Rattle.chebyshev.specs.Recurrence.{rounded, polynomials, derivatives, weighted, evaluateChebyshev};
 
 // T0 to T9 at tau: 1, tau, then each 2 tau times the one before less the one before that.
 pub fn values_at(tau: f64) -> [f64; 10]
@@ -61,7 +61,7 @@ pub struct Evaluation {
 
 // The sum of the ten polynomials at tau with the coefficients c, and its derivative.
 pub fn evaluate_chebyshev(c: [f64; 10], tau: f64) -> Evaluation
-    ensures { λ r. ⌜ (r .value ≡ valueOf rounded c tau) × (r .slope ≡ slopeOf rounded c tau) ⌝ }
+    ensures { λ r. ⌜ r ≡ evaluateChebyshev c tau ⌝ }
 {
     let t = values_at(tau);
     let value = weighted_sum(c, t);

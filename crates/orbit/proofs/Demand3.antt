@@ -11,7 +11,7 @@ use lib.Ieee.Fits.{and-l, and-r, and-i}
 use lib.IntN.{ℤ}
 use lib.ListN.{length, getD, drop, length-map}
 use lib.Ieee.{Float, nan, lt}
-use Rattle.chebyshev.specs.Inverse.{Matrix}
+use Rattle.chebyshev.specs.Inverse.{Matrix, singularRefusal}
 use Rattle.common.specs.Outcome.{Outcome, refused, answered, mapped, unlessRefused, area}
 use Rattle.checks.proofs.Checked.{pass-areas, pass-never-ten}
 use Rattle.samples.specs.Means.{Sample, recording, means, instants, frequencies, Alike}
@@ -45,13 +45,13 @@ left-many i x (m ∷ ms) = go (propagatedBy i (moved (m .instant) x)) (left-many
     go (answered w) e = ap suc e
 
 -- propagation is refused by 8 alone
-refused-by-8 : (i : Inputs) (t : ℤ) (n : ℕ) → propagatedBy i t ≡ refused n → n ≡ 8
+refused-by-8 : (i : Inputs) (t : ℤ) (n : ℕ) → propagatedBy i t ≡ refused n → n ≡ singularRefusal
 refused-by-8 i t n e = go (inversionOf (i .settings .tolerance) (windowSeconds (i .instants) (windowStart (i .instants) t))) refl e
   where
     w : List Float
     w = windowSeconds (i .instants) (windowStart (i .instants) t)
 
-    go : (v : Outcome Matrix) → inversionOf (i .settings .tolerance) w ≡ v → mapped (λ m. motionAt m t) (modelOr v w (i .positions) (windowStart (i .instants) t)) ≡ refused n → n ≡ 8
+    go : (v : Outcome Matrix) → inversionOf (i .settings .tolerance) w ≡ v → mapped (λ m. motionAt m t) (modelOr v w (i .positions) (windowStart (i .instants) t)) ≡ refused n → n ≡ singularRefusal
     go (refused k) p e = let z : k ≡ n = cc in sym z ∙ inversion-eight (i .settings .tolerance) w k p
     go (answered v) p e = let z : _≡_ {A = ℕ} 0 1 = cc in absurd (omega arith)
 

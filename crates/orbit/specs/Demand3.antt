@@ -9,6 +9,7 @@ use lib.Dec.{T}
 use lib.IntN.{ℤ, pos}
 use lib.ListN.{length, getD, drop}
 use lib.Ieee.{Float, nan, binary64, lt, le}
+use Rattle.chebyshev.specs.Inverse.{singularRefusal}
 use Rattle.common.specs.Numbers.{nought, largestFinite, five, fifteen, tenth, twentieth, thousandth, hundredThousandth}
 use Rattle.common.specs.Rounded.{_⊕_, _⊖_, _⊗_}
 use Rattle.common.specs.Outcome.{Outcome, refused, answered}
@@ -171,7 +172,7 @@ pub record Usable (i : Inputs) (S : List Sample) : Type 0 where
   pub exactly : (x : Float)
       → T (usable (tried i S x)) ↔ ((length (means S) / 2 < howMany (propagates i x) (means S)) × T (lt (rmseFor i S x) largestFinite))
   pub rmse-is : (x : Float) → tried i S x .rmse ≡ rmseFor i S x
-  pub else-8 : (x : Float) (m : Sample) (n : ℕ) → propagatedBy i (moved (m .instant) x) ≡ refused n → n ≡ 8
+  pub else-8 : (x : Float) (m : Sample) (n : ℕ) → propagatedBy i (moved (m .instant) x) ≡ refused n → n ≡ singularRefusal
 
 -- ---- the list
 

@@ -2,7 +2,7 @@
 ghost use mathlib.Core.Path.{_≡_};
 ghost use Prim.Native.Nat.{_<_};
 ghost use Rattle.common.specs.Outcome.{refusalIn, areaOf};
-ghost use Rattle.chebyshev.specs.Recurrence.{rounded, valueOf, slopeOf};
+ghost use Rattle.chebyshev.specs.Recurrence.{evaluateChebyshev};
 ghost use Rattle.chebyshev.specs.Inverse.{inverted, flat};
 ghost use Rattle.orbit_abi.specs.Areas.{rowAt, rowsIn};
 
@@ -14,7 +14,7 @@ pub extern "C" fn orbit_evaluate_chebyshev(
     value: &mut f64,
     slope: &mut f64,
 )
-    ensures { λ r. ⌜ (now (value .exit) ≡ valueOf rounded (now (c .entry)) tau) × (now (slope .exit) ≡ slopeOf rounded (now (c .entry)) tau) ⌝ }
+    ensures { λ r. ⌜ (now (value .exit) ≡ evaluateChebyshev (now (c .entry)) tau .value) × (now (slope .exit) ≡ evaluateChebyshev (now (c .entry)) tau .slope) ⌝ }
 {
     let e = chebyshev::evaluate_chebyshev(*c, tau);
     *value = e.value;

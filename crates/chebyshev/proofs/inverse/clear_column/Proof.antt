@@ -1,6 +1,7 @@
 -- The pivot's test is the definition's, and each later step is one of its steps, as the callees ensure. Assumes nothing.
 use mathlib.Core.Path.{_≡_, sym, ap, _∙_}
 use mathlib.Core.Bool.{true, false, not, true≢false}
+use lib.Ieee.{ofBits}
 use Rattle.chebyshev.specs.Inverse.{tooSmall}
 use Rattle.chebyshev.specs.Steps.{clearedColumn}
 use Rattle.chebyshev.proofs.Columns.{small-is, turned}
@@ -27,6 +28,7 @@ magnitude-requires : tie.Need-magnitude-requires
 magnitude-requires c κs = search needs
 
 refused : (c : tie.Then1) → tooSmall (c .before .before .before .before .before .args .i) (c .before .before .before .before .before .args .t .now) ≡ true
+unfolding ofBits
 refused c =
     let s = c .before .before .before .before .before in
     let pivot = c .before .before .before .pivot-row in
@@ -71,6 +73,7 @@ clear-rows-requires-2 : tie.Need-clear-rows-requires-2
 clear-rows-requires-2 c κs = search needs
 
 taken : (c : tie.Else1) → tooSmall (c .before .before .before .before .before .args .i) (c .before .before .before .before .before .args .t .now) ≡ false
+unfolding ofBits
 taken c =
     let s = c .before .before .before .before .before in
     let pivot = c .before .before .before .pivot-row in

@@ -21,10 +21,10 @@ returns : tie.Need-returns
 returns c =
     let summed = c .before .before in
     let row = summed .before in
-    let coefficients = row .before .args .c in (
-      summed .weighted-sum .ensures ∙ ap (weighted rounded coefficients) (row .values-at .ensures),
-      c .weighted-sum2 .ensures ∙ ap (weighted rounded coefficients) (c .before .slopes-from .ensures),
-    )
+    let coefficients = row .before .args .c in
+    let value = summed .weighted-sum .ensures ∙ ap (weighted rounded coefficients) (row .values-at .ensures) in
+    let slope = c .weighted-sum2 .ensures ∙ ap (weighted rounded coefficients) (c .before .slopes-from .ensures) in
+    λ i. record { value = value i; slope = slope i }
 
 pub evaluate-chebyshev-spec : {M : Type 1} → statement M
 evaluate-chebyshev-spec =
