@@ -42,7 +42,7 @@ sumsOf base xs = record { micros = offsetSum base xs; hertz = sumFrom nought (fr
 
 -- a sample as the mean that it is
 abbrev pub asMean : Sample → Mean
-asMean x = record { instant = x .instant; frequency = x .frequency }
+asMean x = record { instant = record { 0 = x .instant }; frequency = record { 0 = x .frequency } }
 
 -- the mean of the second of sample k
 abbrev pub meanAt : List ℤ → List Float → ℕ → Sample

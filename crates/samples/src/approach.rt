@@ -11,6 +11,7 @@ use float::nearest;
 use units::MILLISECOND;
 use units::Nanoseconds;
 use units::SECOND_MILLISECONDS;
+use units::Seconds;
 
 // Slopes under it are passed over, in hertz for each second.
 const SLOPE_FLOOR: f64 = -120.0;
@@ -34,11 +35,11 @@ struct LeastSlope {
 }
 
 // The seconds between two instants, in whole milliseconds over 1000.
-fn gap_between(previous: i64, next: i64) -> f64
-    requires { ⌜ (natAbs previous ≤ farthestMoved) × (natAbs next ≤ farthestMoved) ⌝ }
-    ensures { λ r. ⌜ r ≡ gapOf previous next ⌝ }
+fn gap_between(previous: Nanoseconds, next: Nanoseconds) -> Seconds
+    requires { ⌜ (natAbs (previous .0) ≤ farthestMoved) × (natAbs (next .0) ≤ farthestMoved) ⌝ }
+    ensures { λ r. ⌜ r .0 ≡ gapOf (previous .0) (next .0) ⌝ }
 {
-    nearest((next - previous) / MILLISECOND) / SECOND_MILLISECONDS
+    Seconds(nearest((next.0 - previous.0) / MILLISECOND) / SECOND_MILLISECONDS)
 }
 
 // The better of the best so far and the slope about sample i: it wins only if it is smaller and not under the floor.
@@ -52,11 +53,11 @@ fn steeper_at(
     requires { ⌜ (0 < i) × (i + 1 < length (now instants)) × (length (now frequencies) ≡ length (now instants)) × Limited (now instants) ⌝ }
     ensures { λ r. ⌜ r ≡ betterOf (steeper floor (now (instants .entry))) best (sloped (now (instants .entry)) (now (frequencies .entry)) i) ⌝ }
 {
-    let gap = gap_between(instants[i - 1], instants[i + 1]);
-    if !(gap > 0.0) {
+    let gap = gap_between(Nanoseconds(instants[i - 1]), Nanoseconds(instants[i + 1]));
+    if !(gap.0 > 0.0) {
         return best;
     }
-    let slope = (frequencies[i + 1] - frequencies[i - 1]) / gap;
+    let slope = (frequencies[i + 1] - frequencies[i - 1]) / gap.0;
     if !(slope < best.slope) {
         return best;
     }

@@ -78,8 +78,8 @@ fn write_run(
     let start = second_start(instants[from]);
     let end = run_end(instants, from, start);
     let mean = run_mean(&instants[from..end], &frequencies[from..end]);
-    let instant = mean.instant;
-    let frequency = mean.frequency;
+    let instant = mean.instant.0;
+    let frequency = mean.frequency.0;
     mean_instants[place] = instant;
     mean_frequencies[place] = frequency;
     end

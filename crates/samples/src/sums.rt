@@ -7,7 +7,9 @@ ghost use Rattle.checks.specs.Limits.{farthestInstant};
 ghost use Rattle.samples.specs.Means.{recording, wholeSecond, eqZ, meanOf};
 ghost use Rattle.samples.specs.Sums.{secondStart, StartsSecond, OneSecond, sumsOf, asMean};
 use float::nearest;
+use units::Hertz;
 use units::MICROSECOND;
+use units::Nanoseconds;
 use units::SECOND;
 
 // The sums over some samples: of their offsets from a base, in whole microseconds, and of their frequencies, in hertz.
@@ -16,10 +18,10 @@ struct Sums {
     hertz: f64,
 }
 
-// The mean of a second's samples, in nanoseconds and hertz.
+// The mean of a second's samples.
 pub(crate) struct Mean {
-    pub(crate) instant: i64,
-    pub(crate) frequency: f64,
+    pub(crate) instant: Nanoseconds,
+    pub(crate) frequency: Hertz,
 }
 
 // The whole second of an instant, toward earlier seconds.
@@ -78,7 +80,7 @@ pub(crate) fn run_mean(instants: &[i64], frequencies: &[f64]) -> Mean
     let base = instants[0];
     let count = instants.len() as i64;
     Mean {
-        instant: base + (sums.micros / count) * MICROSECOND,
-        frequency: sums.hertz / nearest(count),
+        instant: Nanoseconds(base + (sums.micros / count) * MICROSECOND),
+        frequency: Hertz(sums.hertz / nearest(count)),
     }
 }

@@ -10,10 +10,10 @@ use Rattle.samples.proofs.approach.gap_between.Statement.{statement}
 use Rattle.samples.proofs.approach.gap_between.Tie as tie
 
 sub-nearest : tie.Need-sub-nearest
-sub-nearest c = subtracts (c .args .next) (c .args .previous) (c .pre .1) (c .pre .0)
+sub-nearest c = let s = c .before .before .before .before in subtracts (s .args .next .0) (s .args .previous .0) (s .pre .1) (s .pre .0)
 
 div-nearest : tie.Need-div-nearest
-div-nearest c = (search needs, divides (c .args .next) (c .args .previous) (c .pre .1) (c .pre .0) millisecond)
+div-nearest c = let s = c .before .before .before .before in (search needs, divides (s .args .next .0) (s .args .previous .0) (s .pre .1) (s .pre .0) millisecond)
 
 nearest-requires : tie.Need-nearest-requires
 nearest-requires c κs = search needs
@@ -21,8 +21,8 @@ nearest-requires c κs = search needs
 returns : tie.Need-returns
 unfolding ofBits
 returns c =
-    let s = c .before in
-    ap (λ (x : Float). div binary64 x thousand) (c .nearest .ensures ∙ ap nearestOf (divided (s .args .next) (s .args .previous) (s .pre .1) (s .pre .0) millisecond))
+    let s = c .before .before .before .before .before in
+    ap (λ (x : Float). div binary64 x thousand) (c .nearest .ensures ∙ ap nearestOf (divided (s .args .next .0) (s .args .previous .0) (s .pre .1) (s .pre .0) millisecond))
 
 pub gap-between-spec : {M : Type 1} → statement M
 gap-between-spec = tie.close (tie.spec sub-nearest div-nearest nearest-requires returns)

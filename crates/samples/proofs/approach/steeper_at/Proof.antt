@@ -13,23 +13,23 @@ use Rattle.samples.proofs.Slopes.{kept-by-gap, kept-by-slope, kept-by-f
 use Rattle.samples.proofs.approach.steeper_at.Statement.{statement}
 use Rattle.samples.proofs.approach.steeper_at.Tie as tie
 
-sub-gap-between : tie.Need-sub-gap-between
-sub-gap-between c = search needs
+sub-t8 : tie.Need-sub-t8
+sub-t8 c = search needs
 
-mul-gap-between : tie.Need-mul-gap-between
-mul-gap-between c = search needs
+mul-t9 : tie.Need-mul-t9
+mul-t9 c = search needs
 
-shared-slice-copy-out-gap-between : tie.Need-shared-slice-copy-out-gap-between
-shared-slice-copy-out-gap-between c = search needs
+shared-slice-copy-out-t11 : tie.Need-shared-slice-copy-out-t11
+shared-slice-copy-out-t11 c = search needs
 
-add-gap-between : tie.Need-add-gap-between
-add-gap-between c = search needs
+add-t13 : tie.Need-add-t13
+add-t13 c = search needs
 
-mul-gap-between-2 : tie.Need-mul-gap-between-2
-mul-gap-between-2 c = search needs
+mul-t14 : tie.Need-mul-t14
+mul-t14 c = search needs
 
-shared-slice-copy-out-gap-between-2 : tie.Need-shared-slice-copy-out-gap-between-2
-shared-slice-copy-out-gap-between-2 c = search needs
+shared-slice-copy-out-t16 : tie.Need-shared-slice-copy-out-t16
+shared-slice-copy-out-t16 c = search needs
 
 gap-between-requires : tie.Need-gap-between-requires
 gap-between-requires c κs =
@@ -42,7 +42,7 @@ gap-between-requires c κs =
     )
 
 -- the gap is the definition's
-gap-is : (c : tie.After-gap-between) → c .gap-between .result ≡ gapAt (c .before .before .before .before .args .instants .now) (c .before .before .before .before .args .i)
+gap-is : (c : tie.After-gap-between) → c .gap-between .result .0 ≡ gapAt (c .before .before .before .before .args .instants .now) (c .before .before .before .before .args .i)
 gap-is c =
     let s = c .before .before .before .before in
     let ts = s .args .instants .now in
@@ -53,8 +53,9 @@ gap-is c =
 returns : tie.Need-returns
 unfolding ofBits
 returns c =
-    let a = c .before .before .before .before .before .args in
-    kept-by-gap (a .floor) (a .instants .now) (a .frequencies .now) (a .i) (a .best) (c .before .gap-between .result) (gap-is (c .before)) (c .if1 .taken)
+    let g = c .before .before in
+    let a = g .before .before .before .before .args in
+    kept-by-gap (a .floor) (a .instants .now) (a .frequencies .now) (a .i) (a .best) (g .gap-between .result .0) (gap-is g) (c .if1 .taken)
 
 add-slope : tie.Need-add-slope
 add-slope c = search needs
@@ -77,34 +78,34 @@ shared-slice-read-slope-2 c = search needs
 returns-2 : tie.Need-returns-2
 unfolding ofBits
 returns-2 c =
-    let g = c .before .before .before .before .before in
+    let g = c .before .before .before .before .before .before .before in
     let a = g .before .before .before .before .args in
-    kept-by-slope (a .floor) (a .instants .now) (a .frequencies .now) (a .i) (a .best) (g .gap-between .result) (gap-is g) (c .if2 .taken)
+    kept-by-slope (a .floor) (a .instants .now) (a .frequencies .now) (a .i) (a .best) (g .gap-between .result .0) (gap-is g) (c .if2 .taken)
 
 returns-3 : tie.Need-returns-3
 unfolding ofBits
 returns-3 c =
-    let g = c .before .before .before .before .before .before in
+    let g = c .before .before .before .before .before .before .before .before in
     let a = g .before .before .before .before .args in
-    kept-by-floor (a .floor) (a .instants .now) (a .frequencies .now) (a .i) (a .best) (g .gap-between .result) (gap-is g) (c .if3 .taken)
+    kept-by-floor (a .floor) (a .instants .now) (a .frequencies .now) (a .i) (a .best) (g .gap-between .result .0) (gap-is g) (c .if3 .taken)
 
 returns-4 : tie.Need-returns-4
 unfolding ofBits
 returns-4 c =
-    let g = c .before .before .before .before .before .before in
+    let g = c .before .before .before .before .before .before .before .before in
     let a = g .before .before .before .before .args in
-    taken (a .floor) (a .instants .now) (a .frequencies .now) (a .i) (a .best) (g .gap-between .result) (gap-is g) (c .before .before .before .before .before .if1 .left) (c .before .if2 .left) (c .if3 .left)
+    taken (a .floor) (a .instants .now) (a .frequencies .now) (a .i) (a .best) (g .gap-between .result .0) (gap-is g) (c .before .before .before .before .before .before .if1 .left) (c .before .if2 .left) (c .if3 .left)
 
 pub steeper-at-spec : {M : Type 1} → statement M
 steeper-at-spec =
     tie.close
     (tie.spec
-    sub-gap-between
-    mul-gap-between
-    shared-slice-copy-out-gap-between
-    add-gap-between
-    mul-gap-between-2
-    shared-slice-copy-out-gap-between-2
+    sub-t8
+    mul-t9
+    shared-slice-copy-out-t11
+    add-t13
+    mul-t14
+    shared-slice-copy-out-t16
     gap-between-requires
     returns
     add-slope

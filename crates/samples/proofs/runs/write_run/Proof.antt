@@ -103,10 +103,10 @@ returns c =
     let from = s .args .from in
     let run = c .before .before .before .before .run-end in
     let m = c .before .run-mean .result in
-    let f : SFits w64 (m .instant) = search needs in
+    let f : SFits w64 (m .instant .0) = search needs in
     let e : m ≡ asMean (meanOf (bin (secondAt ts from) (recording ts fs))) = c .before .run-mean .ensures ∙ ap (λ (l : List Sample). asMean (meanOf l)) (run-is-bin ts fs (s .pre .0) (s .pre .1 .0) from (run .result) (s .pre .1 .1 .1) (run .ensures)) in (
       run .ensures,
-      (ap (set (s .args .mean-instants .now) (s .args .place)) (toZ-ofZ w64 (m .instant) f ∙ ap (λ (x : Mean). x .instant) e), ap (λ (x : Mean). set (s .args .mean-frequencies .now) (s .args .place) (x .frequency)) e),
+      (ap (set (s .args .mean-instants .now) (s .args .place)) (toZ-ofZ w64 (m .instant .0) f ∙ ap (λ (x : Mean). x .instant .0) e), ap (λ (x : Mean). set (s .args .mean-frequencies .now) (s .args .place) (x .frequency .0)) e),
     )
 
 pub write-run-spec : {M : Type 1} → statement M

@@ -17,7 +17,7 @@ use Rattle.common.specs.Time.{microsecond}
 use Rattle.float.specs.Conversions.{nearestOf}
 use Rattle.samples.specs.declared.sums.Sums.{Sums}
 use Rattle.samples.specs.Means.{recording, frequencies, offsetSum}
-use Rattle.samples.specs.Sums.{OneSecond}
+use Rattle.samples.specs.Sums.{OneSecond, asMean}
 use Rattle.samples.proofs.Gaps.{back}
 use Rattle.samples.proofs.Parts.{limit-fits}
 use Rattle.samples.proofs.SumsOfSeconds.{base, sum-fits, share, share-fits, offset-fits, mean-fits, mean-is}
@@ -84,9 +84,9 @@ returns c =
     let e = ap (λ (x : Sums). x .micros) (sums .ensures) in
     let near = c .before .nearest .result in
     let mean = base ts fs o +ℤ share ts fs o *ℤ pos microsecond in
-    ap (λ (z : ℤ). record { instant = z; frequency = sums .result .hertz ⊘ near }) (ap back (instant-is ts fs o (sums .result .micros) e) ∙ toZ-ofZ w64 mean (mean-fits ts fs o))
-    ∙ ap (λ (x : Sums). record { instant = mean; frequency = x .hertz ⊘ near }) (sums .ensures)
-    ∙ ap (λ (x : Float). record { instant = mean; frequency = sumFrom nought (frequencies (recording ts fs)) ⊘ x }) (c .before .nearest .ensures ∙ ap nearestOf (count-is ts fs o (sums .result .micros) e))
+    ap (λ (z : ℤ). asMean (record { instant = z; frequency = sums .result .hertz ⊘ near })) (ap back (instant-is ts fs o (sums .result .micros) e) ∙ toZ-ofZ w64 mean (mean-fits ts fs o))
+    ∙ ap (λ (x : Sums). asMean (record { instant = mean; frequency = x .hertz ⊘ near })) (sums .ensures)
+    ∙ ap (λ (x : Float). asMean (record { instant = mean; frequency = sumFrom nought (frequencies (recording ts fs)) ⊘ x })) (c .before .nearest .ensures ∙ ap nearestOf (count-is ts fs o (sums .result .micros) e))
     ∙ mean-is ts fs o
 
 pub run-mean-spec : {M : Type 1} → statement M
