@@ -16,29 +16,29 @@ use float::sqrt;
 use units::Hertz;
 use units::Seconds;
 
-// The coarse stage: how far before its centre it starts, in seconds, its increment and its steps.
-const COARSE_BEFORE: f64 = 15.0;
+// The coarse stage: how far before its centre it starts, its increment and its steps.
+const COARSE_BEFORE: Seconds = Seconds(15.0);
 
 const COARSE_INCREMENT: Seconds = Seconds(0.1);
 
 const COARSE_STEPS: u64 = 301;
 
 // The same of the fine stage, about the best coarse shift.
-const FINE_BEFORE: f64 = 0.05;
+const FINE_BEFORE: Seconds = Seconds(0.05);
 
 const FINE_INCREMENT: Seconds = Seconds(0.001);
 
 const FINE_STEPS: u64 = 101;
 
 // The same of the micro stage, about the best shift of the two before.
-const MICRO_BEFORE: f64 = 0.001;
+const MICRO_BEFORE: Seconds = Seconds(0.001);
 
 const MICRO_INCREMENT: Seconds = Seconds(0.00001);
 
 const MICRO_STEPS: u64 = 201;
 
-// A centre farther than this off 0, in seconds, has the coarse shifts about 0 tried too.
-const FAR_CENTRE: f64 = 5.0;
+// A centre farther than this off 0 has the coarse shifts about 0 tried too.
+const FAR_CENTRE: Seconds = Seconds(5.0);
 
 // A stage: `steps` shifts from `start` on, each `increment` after the last.
 pub(crate) struct Stage {
@@ -142,7 +142,7 @@ fn coarse_about(centre: Seconds) -> Stage
     ensures { λ r. ⌜ r ≡ coarseStage (centre .0) ⌝ }
 {
     Stage {
-        start: Seconds(centre.0 - COARSE_BEFORE),
+        start: Seconds(centre.0 - COARSE_BEFORE.0),
         increment: COARSE_INCREMENT,
         steps: COARSE_STEPS,
     }
@@ -153,7 +153,7 @@ fn fine_about(best: Seconds) -> Stage
     ensures { λ r. ⌜ r ≡ fineStage (best .0) ⌝ }
 {
     Stage {
-        start: Seconds(best.0 - FINE_BEFORE),
+        start: Seconds(best.0 - FINE_BEFORE.0),
         increment: FINE_INCREMENT,
         steps: FINE_STEPS,
     }
@@ -164,7 +164,7 @@ fn micro_about(best: Seconds) -> Stage
     ensures { λ r. ⌜ r ≡ microStage (best .0) ⌝ }
 {
     Stage {
-        start: Seconds(best.0 - MICRO_BEFORE),
+        start: Seconds(best.0 - MICRO_BEFORE.0),
         increment: MICRO_INCREMENT,
         steps: MICRO_STEPS,
     }
@@ -200,7 +200,7 @@ pub(crate) fn coarse_stage(
         values,
         none,
     );
-    if !(magnitude(centre.0) > FAR_CENTRE) {
+    if !(magnitude(centre.0) > FAR_CENTRE.0) {
         return best;
     }
     run_stage(

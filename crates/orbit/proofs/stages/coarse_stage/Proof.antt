@@ -43,9 +43,9 @@ same-length c = search needs
 returns : tie.Need-returns
 unfolding ofBits
 returns c =
-    let at = c .before .before .before .before in
+    let at = c .before .before .before .before .before in
     let s = start-of at in
-    first-is at ∙ coarse-one (try-of s) (s .args .centre .0) (ap (lt five) (sym (c .before .magnitude .ensures)) ∙ not-true _ (c .if1 .taken))
+    first-is at ∙ coarse-one (try-of s) (s .args .centre .0) (ap (lt five) (sym (c .before .before .magnitude .ensures)) ∙ not-true _ (c .if1 .taken))
 
 coarse-about-requires-2 : tie.Need-coarse-about-requires-2
 coarse-about-requires-2 c κs = search needs
@@ -54,7 +54,7 @@ run-stage-requires-2 : tie.Need-run-stage-requires-2
 unfolding ofBits
 run-stage-requires-2 c κs =
     let far = c .before .before in
-    let at = far .before .before .before .before in
+    let at = far .before .before .before .before .before in
     let call = at .run-stage in
     (still-fitting (call .last .1 .1 .1 .1 .1 .1 .0) (call .kept .1 .1 .1 .1 .1 .1 .0) (start-of at .pre .0), subst SmallStage (sym (c .before .coarse-about2 .ensures)) (coarse-fits nought (omega arith)))
 
@@ -67,11 +67,11 @@ returns-2 c =
     let second = c .before .before in
     let about = second .before .before in
     let far = about .before in
-    let at = far .before .before .before .before in
+    let at = far .before .before .before .before .before in
     let s = start-of at in
     second .run-stage2 .ensures
     ∙ ap₂ (afterStage (try-of s)) (about .coarse-about2 .ensures) (first-is at)
-    ∙ coarse-two (try-of s) (s .args .centre .0) (ap (lt five) (sym (far .before .magnitude .ensures)) ∙ not-false _ (far .if1 .left))
+    ∙ coarse-two (try-of s) (s .args .centre .0) (ap (lt five) (sym (far .before .before .magnitude .ensures)) ∙ not-false _ (far .if1 .left))
 
 pub coarse-stage-spec : {M : Type 1} → statement M
 coarse-stage-spec =
