@@ -15,7 +15,7 @@ use Rattle.float.specs.Conversions.{nearestOf}
 use Rattle.samples.specs.Means.{Sample}
 use Rattle.orbit.specs.declared.stages.LeastSoFar.{LeastSoFar}
 use Rattle.orbit.specs.Fit.{trial}
-use Rattle.orbit.specs.Residuals.{Residual, residuals, meanOver, deviation}
+use Rattle.orbit.specs.Residuals.{Residual, residuals, meanOver, squaredDeviation}
 use Rattle.common.specs.Numbers.{minusZero}
 use Rattle.orbit.specs.Stages.{stateOf, update}
 use Rattle.common.specs.Sums.{sumFrom}
@@ -43,9 +43,9 @@ module _ (residual : Float → Sample → Residual) (S : List Sample) (shift : F
   unfolding trial
   offset-is = ap meanOver (sym are)
 
-  rmse-is : trial residual S shift .rmse ≡ root binary64 (meanOver (map (deviation (meanOver ys)) ys))
+  rmse-is : trial residual S shift .rmse ≡ root binary64 (meanOver (map (squaredDeviation (meanOver ys)) ys))
   unfolding trial
-  rmse-is = ap (λ (l : List Float). root binary64 (meanOver (map (deviation (meanOver l)) l))) (sym are)
+  rmse-is = ap (λ (l : List Float). root binary64 (meanOver (map (squaredDeviation (meanOver l)) l))) (sym are)
 
   -- too few are left
   pub too-few : (best : LeastSoFar) → length ys ≤ length S / 2 → best ≡ update best (trial residual S shift)
@@ -56,7 +56,7 @@ module _ (residual : Float → Sample → Residual) (S : List Sample) (shift : F
       ap (λ (x : Bool). cond x (stateOf (trial residual S shift)) best) (sym t ∙ ap (λ (x : Float). lt x (best .rmse .0)) e)
       ∙ ap (λ (x : Bool). cond (x && lt (trial residual S shift .rmse) (best .rmse .0)) (stateOf (trial residual S shift)) best) (sym (enough-is ∙ lt-ltb (length S / 2) (length ys) h))
 
-  module _ (best : LeastSoFar) (offset rmse : Float) (enough : length S / 2 < length ys) (eo : offset ≡ meanOver ys) (er : rmse ≡ root binary64 (meanOver (map (deviation (meanOver ys)) ys))) where
+  module _ (best : LeastSoFar) (offset rmse : Float) (enough : length S / 2 < length ys) (eo : offset ≡ meanOver ys) (er : rmse ≡ root binary64 (meanOver (map (squaredDeviation (meanOver ys)) ys))) where
     pub won : lt rmse (best .rmse .0) ≡ true → _≡_ {A = LeastSoFar} (record { rmse = record { 0 = rmse }; shift = record { 0 = shift }; offset = record { 0 = offset } }) (update best (trial residual S shift))
     won t = same (er ∙ sym rmse-is) (sym (shift-is residual S shift)) (eo ∙ sym offset-is) ∙ by-rmse best rmse true enough (er ∙ sym rmse-is) t
       where

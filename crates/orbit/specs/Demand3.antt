@@ -26,7 +26,7 @@ use Rattle.orbit.specs.Propagation.{Motion}
 use Rattle.orbit.specs.Closest.{movedBySeconds, nearer, centred, minutes, secondsAbout, rangedAt, byMinutes, bySeconds}
 use Rattle.orbit.specs.Fit.{Trial, trial, usable, shiftsOf, coarseStage, fineStage, microStage, coarse, coarseFine, shifts, noneUsableRefusal}
 use Rattle.orbit.specs.Fit.{basisOf, reportOfTrial, predictedBy, centreOf}
-use Rattle.orbit.specs.Residuals.{Inputs, propagatedBy, moved, residualOf, residuals, meanOver, deviation}
+use Rattle.orbit.specs.Residuals.{Inputs, propagatedBy, moved, residualOf, residuals, meanOver, squaredDeviation}
 use Rattle.orbit.specs.Passes.{middleOf, measuredOf, passOutcome, pass, passInstants, passFrequencies}
 
 -- ---- the means
@@ -164,7 +164,7 @@ offsetFor i S x = meanOver (residuals (residualOf i x) (means S))
 
 -- "RMSE is the root of the mean squared rest"
 abbrev pub rmseFor : Inputs → List Sample → Float → Float
-rmseFor i S x = root binary64 (meanOver (map (deviation (offsetFor i S x)) (residuals (residualOf i x) (means S))))
+rmseFor i S x = root binary64 (meanOver (map (squaredDeviation (offsetFor i S x)) (residuals (residualOf i x) (means S))))
 
 -- a shift is usable exactly when more than half the means (whole-number half) can be propagated for it and its RMSE is below the largest finite
 -- double; a mean that cannot be is refused by 8

@@ -22,7 +22,7 @@ use Rattle.orbit.specs.declared.fit.Report.{Report}
 use Rattle.orbit.specs.declared.fit.FitAnswer.{FitAnswer}
 use Rattle.orbit.specs.declared.fit.FitAnswer.the-variants.{Reported, Refused}
 use Rattle.orbit.specs.Closest.{closestInstant}
-use Rattle.orbit.specs.Residuals.{Inputs, Residual, residualOf, residuals, meanOver, deviation}
+use Rattle.orbit.specs.Residuals.{Inputs, Residual, residualOf, residuals, meanOver, squaredDeviation}
 
 -- a shift in seconds with its frequency offset and RMSE in hertz, and whether enough samples are left
 pub record Trial : Type 0 where
@@ -36,7 +36,7 @@ unfoldable pub trial : (Float → Sample → Residual) → List Sample → Float
 trial residual S shift =
     let ys = residuals (residual shift) S in
     let offset = meanOver ys in
-    record { shift = shift; offset = offset; rmse = root binary64 (meanOver (map (deviation offset) ys)); enough = ltb (length S / 2) (length ys) }
+    record { shift = shift; offset = offset; rmse = root binary64 (meanOver (map (squaredDeviation offset) ys)); enough = ltb (length S / 2) (length ys) }
 
 -- "Usable: more than half the samples (whole-number half) left and an RMSE below the largest finite double"
 abbrev pub usable : Trial → Bool

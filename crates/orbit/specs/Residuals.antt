@@ -87,6 +87,6 @@ residuals f (x ∷ xs) = keep (f x) (residuals f xs)
 unfoldable pub meanOver : List Float → Float
 meanOver ys = sumFrom minusZero ys ⊘ nearestOf (pos (length ys))
 
--- (y − mean) × (y − mean)
-unfoldable pub deviation : Float → Float → Float
-deviation mean y = squared (y ⊖ mean)
+-- the squared deviation of y from the mean, (y − mean) × (y − mean)
+unfoldable pub squaredDeviation : Float → Float → Float
+squaredDeviation mean y = squared (y ⊖ mean)

@@ -12,7 +12,7 @@ ghost use Rattle.common.specs.Sums.{sumFrom};
 ghost use Rattle.orbit.specs.Bounds.{FitAreas, farthestShift, farthestMicros};
 ghost use Rattle.checks.specs.Checked.{Table};
 ghost use Rattle.orbit.specs.Propagation.{propagated};
-ghost use Rattle.orbit.specs.Residuals.{wholeMicroseconds, residualAt, residualIn, keep, inputsOf, residuals, residualOf, deviation};
+ghost use Rattle.orbit.specs.Residuals.{wholeMicroseconds, residualAt, residualIn, keep, inputsOf, residuals, residualOf, squaredDeviation};
 ghost use Rattle.common.specs.Numbers.{minusZero};
 use crate::propagation::Propagation;
 use crate::propagation::propagate_at;
@@ -121,7 +121,7 @@ pub(crate) fn sum_of(values: &[f64], count: usize) -> f64
 // The sum of the squares of what the first `count` values are off the mean, from −0.0.
 pub(crate) fn squares_of(values: &[f64], count: usize, mean: f64) -> f64
     requires { ⌜ count ≤ length (now values) ⌝ }
-    ensures { λ r. ⌜ r ≡ sumFrom minusZero (map (deviation mean) (take count (now (values .entry)))) ⌝ }
+    ensures { λ r. ⌜ r ≡ sumFrom minusZero (map (squaredDeviation mean) (take count (now (values .entry)))) ⌝ }
 {
     let mut sum = -0.0;
     for i in 0..count {

@@ -5,7 +5,7 @@ use native.Mathlib.Omega.{arith}
 use lib.ListN.{take, drop}
 use lib.Ieee.{ofBits, neg}
 use mathlib.Core.List.{map}
-use Rattle.orbit.specs.Residuals.{deviation}
+use Rattle.orbit.specs.Residuals.{squaredDeviation}
 use Rattle.common.specs.Numbers.{minusZero}
 use Rattle.common.proofs.Sums.{mapped-step, mapped-end}
 use Rattle.common.specs.Sums.{sumFrom}
@@ -14,7 +14,7 @@ use Rattle.orbit.proofs.residuals.squares_of.Statement.{statement}
 use Rattle.orbit.proofs.residuals.squares_of.Tie as tie
 
 abbrev Inv-loop : tie.InvT-loop
-Inv-loop values count mean sum₀ i₀ sum i = (i ≤ count) × (sumFrom sum (map (deviation mean) (take (count - i) (drop i values))) ≡ sumFrom minusZero (map (deviation mean) (take count values)))
+Inv-loop values count mean sum₀ i₀ sum i = (i ≤ count) × (sumFrom sum (map (squaredDeviation mean) (take (count - i) (drop i values))) ≡ sumFrom minusZero (map (squaredDeviation mean) (take count values)))
 
 abbrev μ-loop : tie.MeasureT-loop
 μ-loop values count mean sum₀ i₀ sum i = count - i
@@ -39,17 +39,17 @@ loop-less : tie.Need-loop-less Inv-loop μ-loop
 loop-less c = search needs
 
 loop-again : tie.Need-loop-again Inv-loop μ-loop
-unfolding deviation
+unfolding squaredDeviation
 loop-again c =
     let at = c .before .before .loop in
     let s = c .before .before .before in
-    (search needs, mapped-step (deviation (s .args .mean)) (at .sum) (s .args .values .now) (at .i) (s .args .count) (omega arith) (s .pre) ∙ at .inv .1)
+    (search needs, mapped-step (squaredDeviation (s .args .mean)) (at .sum) (s .args .values .now) (at .i) (s .args .count) (omega arith) (s .pre) ∙ at .inv .1)
 
 returns : tie.Need-returns Inv-loop μ-loop
 returns c =
     let at = c .before .loop in
     let a = c .before .before .args in
-    sym (mapped-end (deviation (a .mean)) (at .sum) (a .values .now) (at .i) (a .count) (omega arith)) ∙ at .inv .1
+    sym (mapped-end (squaredDeviation (a .mean)) (at .sum) (a .values .now) (at .i) (a .count) (omega arith)) ∙ at .inv .1
 
 pub squares-of-spec : {M : Type 1} → statement M
 squares-of-spec =

@@ -13,7 +13,7 @@ use mir.ValLaws.{toZ-pos}
 use Rattle.float.specs.Root.{root}
 use Rattle.float.specs.Conversions.{nearestOf}
 use Rattle.samples.specs.Means.{Sample, recording}
-use Rattle.orbit.specs.Residuals.{Residual, inputsOf, residualOf, meanOver, deviation}
+use Rattle.orbit.specs.Residuals.{Residual, inputsOf, residualOf, meanOver, squaredDeviation}
 use Rattle.common.specs.Numbers.{minusZero}
 use Rattle.samples.proofs.Recordings.{record-length}
 use Rattle.orbit.proofs.Trials.{mean-is, length-front, too-few, won, lost}
@@ -92,18 +92,18 @@ offset-is c =
     let at = collected c in
     ap (λ (x : Float). c .sum-of .result ⊘ x) (count-is (c .before .before)) ∙ mean-is (values-of at) (at .collect-residuals .result) (c .sum-of .result) (length-values at) (c .sum-of .ensures)
 
-rmse-is : (c : tie.After-sqrt) → (let ys = values-of (collected (c .before .before .before)) in c .sqrt .result ≡ root binary64 (meanOver (map (deviation (meanOver ys)) ys)))
+rmse-is : (c : tie.After-sqrt) → (let ys = values-of (collected (c .before .before .before)) in c .sqrt .result ≡ root binary64 (meanOver (map (squaredDeviation (meanOver ys)) ys)))
 rmse-is c =
     let squares = c .before .squares-of in
     let sum = c .before .before .before in
     let at = collected sum in
     let ys = values-of at in
     let m = meanOver ys in
-    let e : squares .result ≡ sumFrom minusZero (map (deviation m) ys) = squares .ensures ∙ ap (λ (x : Float). sumFrom minusZero (map (deviation x) ys)) (offset-is sum) in
+    let e : squares .result ≡ sumFrom minusZero (map (squaredDeviation m) ys) = squares .ensures ∙ ap (λ (x : Float). sumFrom minusZero (map (squaredDeviation x) ys)) (offset-is sum) in
     c .sqrt .ensures
     ∙ ap (root binary64)
     (ap (λ (x : Float). squares .result ⊘ x) (count-is (sum .before .before))
-    ∙ mean-is (map (deviation m) ys) (at .collect-residuals .result) (squares .result) (length-map ys (deviation m) ∙ length-values at) e)
+    ∙ mean-is (map (squaredDeviation m) ys) (at .collect-residuals .result) (squares .result) (length-map ys (squaredDeviation m) ∙ length-values at) e)
 
 enough-of : (c : tie.Else1) → (let at = c .before .before .before in length (samples-of (start-of at)) / 2 < length (values-of at))
 enough-of c =
