@@ -1,15 +1,13 @@
 -- What holds of an entry's inputs where none of its checks fails: each check is read off as false, and says of every element what it says of the list.
 -- And the other way: samples that are few, near and of one length pass their checks. Assumes nothing.
-use mathlib.Core.Path.{_≡_, refl, sym, subst}
+use mathlib.Core.Path.{_≡_, refl}
 use mathlib.Core.Bool.{false, not, _||_}
 use mathlib.Core.List.{List, [], _∷_}
 use Prim.Native.Nat.{ℕ, zero, suc, _*_, _≤_, _<_}
-use native.Mathlib.Numerals.{add-one}
 use native.Mathlib.Omega.{arith}
 use borrow.Author.Tests.{ltb-false, eqb-true, eqb-false, not-false, le-ltb, ne-eqb, eq-eqb}
-use lib.Dec.{T, ltb, eqb}
+use lib.Dec.{ltb, eqb}
 use lib.IntN.{ℤ, pos, natAbs}
-use lib.Signed.{ltZ, _<ℤ_}
 use lib.Ieee.{Float}
 use Rattle.units.specs.declared.Hertz.{Hertz}
 use Rattle.units.specs.declared.Observer.{Observer}
@@ -35,14 +33,6 @@ unfolding any
 none-beyond [] h = refl
 none-beyond (t ∷ l) h = rw (le-ltb farthestInstant (natAbs t) (h 0 (omega arith))) (none-beyond l (λ k s. h (suc k) (omega arith)))
 
--- check 5
-rising-each : (l : List ℤ) → unrising l ≡ false → (k : ℕ) → suc k < length l → getD l k (pos 0) <ℤ getD l (suc k) (pos 0)
-unfolding unrising
-rising-each [] h k s = absurd (omega arith)
-rising-each (a ∷ []) h k s = absurd (omega arith)
-rising-each (a ∷ b ∷ r) h zero s = record { lt = subst T (sym (not-false (ltZ a b) (neither (not (ltZ a b)) (unrising (b ∷ r)) h .0))) tt }
-rising-each (a ∷ b ∷ r) h (suc k) s = rising-each (b ∷ r) (neither (not (ltZ a b)) (unrising (b ∷ r)) h .1) k (omega arith)
-
 -- checks 1, 4, 5
 table : (ts : List ℤ) (ps : List Float) → miscounted ts ps ≡ false → any beyond ts ≡ false → unrising ts ≡ false → Table ts ps
 table ts ps h1 h4 h5 =
@@ -53,7 +43,6 @@ table ts ps h1 h4 h5 =
       enough = ltb-false n leastCoordinates (ends .0);
       few = ltb-false mostCoordinates n (ends .1);
       three = eqb-true (length ps) (axes * n) (not-false (eqb (length ps) (axes * n)) (both .1));
-      rising = λ k s. rw add-one (rising-each ts h5 k (omega arith));
       near = near-each ts h4;
       risen = h5;
     }

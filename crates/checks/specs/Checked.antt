@@ -1,10 +1,9 @@
 -- Inner: what holds of inputs that passed their checks, which the functions behind an entry rely on.
-use Prim.Native.Nat.{ℕ, zero, suc, _+_, _*_, _≤_, _<_}
+use Prim.Native.Nat.{ℕ, zero, suc, _*_, _≤_, _<_}
 use mathlib.Core.Path.{_≡_}
 use mathlib.Core.Bool.{false, cond}
 use mathlib.Core.List.{List}
 use lib.IntN.{ℤ, pos, natAbs}
-use lib.Signed.{_<ℤ_}
 use lib.Ieee.{Float}
 use lib.ListN.{length, getD}
 use Rattle.checks.specs.Limits.{leastCoordinates, mostCoordinates, axes, mostSamples, farthestInstant}
@@ -16,7 +15,6 @@ pub record Table (instants : List ℤ) (positions : List Float) : Type 0 where
   pub enough : leastCoordinates ≤ length instants
   pub few : length instants ≤ mostCoordinates
   pub three : length positions ≡ axes * length instants
-  pub rising : (k : ℕ) → k + 1 < length instants → getD instants k (pos 0) <ℤ getD instants (k + 1) (pos 0)
   pub near : (k : ℕ) → natAbs (getD instants k (pos 0)) ≤ farthestInstant
   pub risen : unrising instants ≡ false
 
