@@ -11,6 +11,7 @@ use lib.Signed.{ltZ}
 use lib.Ieee.{Float}
 use lib.ListN.{length, getD, drop, length-drop, drop-of-length-le}
 use lib.Seq.{drop-cons}
+use Rattle.checks.specs.Limits.{axes}
 use Rattle.checks.specs.Checks.{any, unrising, misplaced, anyMisplaced}
 
 -- from `part ≡ b || rest` and `part ≡ whole`: what b says of the whole
@@ -59,30 +60,30 @@ module _ (l : List ℤ) (i : ℕ) (h : 1 ≤ i) (whole : unrising (drop (i - 1) 
   pub rising-none : length l ≤ i → false ≡ unrising l
   rising-none k = rising-short (drop (i - 1) l) (omega (arith, length-drop (i - 1) l)) ∙ whole
 
-short : (l : List Float) → length l < 3 → false ≡ anyMisplaced l
+short : (l : List Float) → length l < axes → false ≡ anyMisplaced l
 unfolding anyMisplaced
 short [] h = refl
 short (x ∷ []) h = refl
 short (x ∷ y ∷ []) h = refl
 short (x ∷ y ∷ z ∷ r) h = absurd (omega arith)
 
-module _ (d : Float) (l : List Float) (k : ℕ) (whole : anyMisplaced (drop (3 * k) l) ≡ anyMisplaced l) where
-  place-step : 3 * k + 2 < length l → anyMisplaced (drop (3 * k) l) ≡ (misplaced (getD l (3 * k) d) (getD l (3 * k + 1) d) (getD l (3 * k + 2) d) || anyMisplaced (drop (3 * (k + 1)) l))
+module _ (d : Float) (l : List Float) (k : ℕ) (whole : anyMisplaced (drop (axes * k) l) ≡ anyMisplaced l) where
+  place-step : axes * k + 2 < length l → anyMisplaced (drop (axes * k) l) ≡ (misplaced (getD l (axes * k) d) (getD l (axes * k + 1) d) (getD l (axes * k + 2) d) || anyMisplaced (drop (axes * (k + 1)) l))
   unfolding anyMisplaced
   place-step h =
-      let e1 : 3 * k + 1 ≡ suc (3 * k) = omega arith in
-      let e2 : 3 * k + 2 ≡ suc (suc (3 * k)) = omega arith in
-      let e3 : 3 * (k + 1) ≡ suc (suc (suc (3 * k))) = omega arith in
-      let h0 : 3 * k < length l = omega arith in
-      let h1 : suc (3 * k) < length l = omega arith in
-      let h2 : suc (suc (3 * k)) < length l = omega arith in
-      rw (e1, e2, e3, drop-cons l (3 * k) d h0, drop-cons l (suc (3 * k)) d h1, drop-cons l (suc (suc (3 * k))) d h2)
+      let e1 : axes * k + 1 ≡ suc (axes * k) = omega arith in
+      let e2 : axes * k + 2 ≡ suc (suc (axes * k)) = omega arith in
+      let e3 : axes * (k + 1) ≡ suc (suc (suc (axes * k))) = omega arith in
+      let h0 : axes * k < length l = omega arith in
+      let h1 : suc (axes * k) < length l = omega arith in
+      let h2 : suc (suc (axes * k)) < length l = omega arith in
+      rw (e1, e2, e3, drop-cons l (axes * k) d h0, drop-cons l (suc (axes * k)) d h1, drop-cons l (suc (suc (axes * k))) d h2)
 
-  pub place-found : 3 * k + 2 < length l → misplaced (getD l (3 * k) d) (getD l (3 * k + 1) d) (getD l (3 * k + 2) d) ≡ true → true ≡ anyMisplaced l
+  pub place-found : axes * k + 2 < length l → misplaced (getD l (axes * k) d) (getD l (axes * k + 1) d) (getD l (axes * k + 2) d) ≡ true → true ≡ anyMisplaced l
   place-found h e = found _ _ _ _ (place-step h) whole e
 
-  pub place-more : 3 * k + 2 < length l → misplaced (getD l (3 * k) d) (getD l (3 * k + 1) d) (getD l (3 * k + 2) d) ≡ false → anyMisplaced (drop (3 * (k + 1)) l) ≡ anyMisplaced l
+  pub place-more : axes * k + 2 < length l → misplaced (getD l (axes * k) d) (getD l (axes * k + 1) d) (getD l (axes * k + 2) d) ≡ false → anyMisplaced (drop (axes * (k + 1)) l) ≡ anyMisplaced l
   place-more h e = more _ _ _ _ (place-step h) whole e
 
-  pub place-none : length l < 3 * k + 3 → false ≡ anyMisplaced l
-  place-none h = short (drop (3 * k) l) (omega (arith, length-drop (3 * k) l)) ∙ whole
+  pub place-none : length l < axes * k + axes → false ≡ anyMisplaced l
+  place-none h = short (drop (axes * k) l) (omega (arith, length-drop (axes * k) l)) ∙ whole

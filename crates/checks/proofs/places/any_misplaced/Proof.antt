@@ -5,6 +5,7 @@ use native.Mathlib.Omega.{arith}
 use borrow.Author.Needs.{needs}
 use lib.ListN.{length, drop}
 use lib.Ieee.{nan}
+use Rattle.checks.specs.Limits.{axes}
 use Rattle.checks.specs.Checks.{anyMisplaced}
 use Rattle.checks.proofs.Lists.{place-found, place-more, place-none}
 use Rattle.checks.proofs.places.any_misplaced.Statement.{statement}
@@ -12,8 +13,8 @@ use Rattle.checks.proofs.places.any_misplaced.Tie as tie
 
 abbrev Inv-loop : tie.InvT-loop
 Inv-loop positions places k₀ k =
-    (k ≤ places) × (3 * places ≤ length positions) × (length positions < 3 * places + 3)
-    × (anyMisplaced (drop (3 * k) positions) ≡ anyMisplaced positions)
+    (k ≤ places) × (axes * places ≤ length positions) × (length positions < axes * places + axes)
+    × (anyMisplaced (drop (axes * k) positions) ≡ anyMisplaced positions)
 
 abbrev μ-loop : tie.MeasureT-loop
 μ-loop positions places k₀ k = places - k

@@ -6,12 +6,13 @@ use lib.ListN.{length, getD, length-set}
 use lib.Ieee.{nan}
 use borrow.Author.Count.{below-none}
 use Rattle.common.proofs.Filled.{filled, filled-more}
+use Rattle.checks.specs.Limits.{axes}
 use borrow.Author.Needs.{needs}
 use Rattle.orbit.proofs.window.axis_of.Statement.{statement}
 use Rattle.orbit.proofs.window.axis_of.Tie as tie
 
 abbrev Inv-loop : tie.InvT-loop
-Inv-loop positions start axis p₀ k₀ p k = (k ≤ 10) × (length p ≡ 10) × ((n : ℕ) → n < k → getD p n nan ≡ getD positions (3 * (start + n) + axis) nan)
+Inv-loop positions start axis p₀ k₀ p k = (k ≤ 10) × (length p ≡ 10) × ((n : ℕ) → n < k → getD p n nan ≡ getD positions (axes * (start + n) + axis) nan)
 
 abbrev μ-loop : tie.MeasureT-loop
 μ-loop positions start axis p₀ k₀ p k = 10 - k
@@ -50,13 +51,13 @@ loop-again : tie.Need-loop-again Inv-loop μ-loop
 loop-again c =
     let at = c .before .before .loop in
     let args = c .before .before .before .args in
-    (search needs, simp length-set (search needs), filled-more (λ n. getD (args .positions .now) (3 * (args .start + n) + args .axis) nan) nan (at .p) (at .k) _ (omega arith) refl (at .inv .2))
+    (search needs, simp length-set (search needs), filled-more (λ n. getD (args .positions .now) (axes * (args .start + n) + args .axis) nan) nan (at .p) (at .k) _ (omega arith) refl (at .inv .2))
 
 returns : tie.Need-returns Inv-loop μ-loop
 returns c =
     let at = c .before .loop in
     let args = c .before .before .args in
-    filled (λ n. getD (args .positions .now) (3 * (args .start + n) + args .axis) nan) 10 nan (at .p) (at .inv .1) (λ n h. at .inv .2 n (omega arith))
+    filled (λ n. getD (args .positions .now) (axes * (args .start + n) + args .axis) nan) 10 nan (at .p) (at .inv .1) (λ n h. at .inv .2 n (omega arith))
 
 pub axis-of-spec : {M : Type 1} → statement M
 axis-of-spec =
