@@ -17,7 +17,6 @@ pub use passes::pass;
 pub use propagation::Propagation;
 pub use propagation::evaluate;
 pub use propagation::propagate_ecef;
-pub use settings::EVEN_TOLERANCE;
 pub use window::ChebyshevOrbit;
 pub use window::Model;
 pub use window::get_chebyshev_model;

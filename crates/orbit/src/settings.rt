@@ -11,4 +11,4 @@ pub(crate) struct Settings {
 }
 
 // The tolerance of an even window.
-pub const EVEN_TOLERANCE: Seconds = Seconds(1.0);
+pub(crate) const EVEN_TOLERANCE: Seconds = Seconds(1.0);
