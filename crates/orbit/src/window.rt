@@ -20,6 +20,9 @@ use float::nearest;
 use units::Nanoseconds;
 use units::Seconds;
 
+// The seconds in a nanosecond.
+const BILLIONTH: f64 = 1e-9;
+
 // Two end times and ten coefficients for each axis: the position at τ is the Chebyshev sum, in metres.
 pub struct ChebyshevOrbit {
     pub t0: Seconds,
@@ -75,11 +78,11 @@ pub(crate) fn window_start(instants: &[i64], t: Nanoseconds) -> usize
     start_of(last_before(instants, t), instants.len())
 }
 
-// The seconds of an instant: its nanoseconds rounded to a double, times 1e-9.
+// The seconds of an instant: its nanoseconds rounded to a double, times a billionth.
 pub(crate) fn seconds_of(t: Nanoseconds) -> Seconds
     ensures { λ r. ⌜ r .0 ≡ secondsOf (t .0) ⌝ }
 {
-    Seconds(nearest(t.0) * 1e-9)
+    Seconds(nearest(t.0) * BILLIONTH)
 }
 
 // The ten times of the window, in seconds.
