@@ -39,9 +39,9 @@ module _ (residual : Float → Sample → Residual) (S : List Sample) (shift : F
   unfolding trial
   enough-is = ap (λ (l : List Float). ltb (length S / 2) (length l)) (sym are)
 
-  offset-is : trial residual S shift .offset ≡ meanOver ys
+  frequency-offset-is : trial residual S shift .frequencyOffset ≡ meanOver ys
   unfolding trial
-  offset-is = ap meanOver (sym are)
+  frequency-offset-is = ap meanOver (sym are)
 
   rmse-is : trial residual S shift .rmse ≡ root binary64 (meanOver (map (squaredDeviation (meanOver ys)) ys))
   unfolding trial
@@ -56,12 +56,12 @@ module _ (residual : Float → Sample → Residual) (S : List Sample) (shift : F
       ap (λ (x : Bool). cond x (stateOf (trial residual S shift)) best) (sym t ∙ ap (λ (x : Float). lt x (best .rmse .0)) e)
       ∙ ap (λ (x : Bool). cond (x && lt (trial residual S shift .rmse) (best .rmse .0)) (stateOf (trial residual S shift)) best) (sym (enough-is ∙ lt-ltb (length S / 2) (length ys) h))
 
-  module _ (best : LeastSoFar) (offset rmse : Float) (enough : length S / 2 < length ys) (eo : offset ≡ meanOver ys) (er : rmse ≡ root binary64 (meanOver (map (squaredDeviation (meanOver ys)) ys))) where
-    pub won : lt rmse (best .rmse .0) ≡ true → _≡_ {A = LeastSoFar} (record { rmse = record { 0 = rmse }; shift = record { 0 = shift }; offset = record { 0 = offset } }) (update best (trial residual S shift))
-    won t = same (er ∙ sym rmse-is) (sym (shift-is residual S shift)) (eo ∙ sym offset-is) ∙ by-rmse best rmse true enough (er ∙ sym rmse-is) t
+  module _ (best : LeastSoFar) (frequencyOffset rmse : Float) (enough : length S / 2 < length ys) (eo : frequencyOffset ≡ meanOver ys) (er : rmse ≡ root binary64 (meanOver (map (squaredDeviation (meanOver ys)) ys))) where
+    pub won : lt rmse (best .rmse .0) ≡ true → _≡_ {A = LeastSoFar} (record { rmse = record { 0 = rmse }; shift = record { 0 = shift }; «frequency_offset» = record { 0 = frequencyOffset } }) (update best (trial residual S shift))
+    won t = same (er ∙ sym rmse-is) (sym (shift-is residual S shift)) (eo ∙ sym frequency-offset-is) ∙ by-rmse best rmse true enough (er ∙ sym rmse-is) t
       where
         same : {r s o r′ s′ o′ : Float} → r ≡ r′ → s ≡ s′ → o ≡ o′
-            → _≡_ {A = LeastSoFar} (record { rmse = record { 0 = r }; shift = record { 0 = s }; offset = record { 0 = o } }) (record { rmse = record { 0 = r′ }; shift = record { 0 = s′ }; offset = record { 0 = o′ } })
+            → _≡_ {A = LeastSoFar} (record { rmse = record { 0 = r }; shift = record { 0 = s }; «frequency_offset» = record { 0 = o } }) (record { rmse = record { 0 = r′ }; shift = record { 0 = s′ }; «frequency_offset» = record { 0 = o′ } })
         same p q t = rw (p, q, t)
 
     pub lost : lt rmse (best .rmse .0) ≡ false → best ≡ update best (trial residual S shift)

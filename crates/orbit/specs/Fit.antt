@@ -27,7 +27,7 @@ use Rattle.orbit.specs.Residuals.{Inputs, Residual, residualOf, residual
 -- a shift in seconds with its frequency offset and RMSE in hertz, and whether enough samples are left
 pub record Trial : Type 0 where
   pub shift : Float
-  pub offset : Float
+  pub frequencyOffset : Float
   pub rmse : Float
   pub enough : Bool
 
@@ -35,8 +35,13 @@ pub record Trial : Type 0 where
 unfoldable pub trial : (Float → Sample → Residual) → List Sample → Float → Trial
 trial residual S shift =
     let ys = residuals (residual shift) S in
-    let offset = meanOver ys in
-    record { shift = shift; offset = offset; rmse = root binary64 (meanOver (map (squaredDeviation offset) ys)); enough = ltb (length S / 2) (length ys) }
+    let frequencyOffset = meanOver ys in
+    record {
+      shift = shift;
+      frequencyOffset = frequencyOffset;
+      rmse = root binary64 (meanOver (map (squaredDeviation frequencyOffset) ys));
+      enough = ltb (length S / 2) (length ys);
+    }
 
 -- "Usable: more than half the samples (whole-number half) left and an RMSE below the largest finite double"
 abbrev pub usable : Trial → Bool
@@ -119,16 +124,16 @@ basisOf S = record { count = length S }
 
 -- "the three doubles and the count": a report is made here alone
 abbrev pub reportOf : Basis → Float → Float → Float → Report
-reportOf basis shift offset rmse = record {
+reportOf basis shift frequencyOffset rmse = record {
   «clock_offset» = record { 0 = shift };
-  «frequency_offset» = record { 0 = offset };
+  «frequency_offset» = record { 0 = frequencyOffset };
   rmse = record { 0 = rmse };
   count = basis .count;
 }
 
 -- the report of a trial
 abbrev pub reportOfTrial : Basis → Trial → Report
-reportOfTrial basis t = reportOf basis (t .shift) (t .offset) (t .rmse)
+reportOfTrial basis t = reportOf basis (t .shift) (t .frequencyOffset) (t .rmse)
 
 -- 10. "No coarse candidate is usable"
 abbrev pub noneUsableRefusal : ℕ

@@ -19,11 +19,11 @@ trialBy instants positions samples frequencies settings = trial (residualOf (inp
 
 -- the state that a trial leaves when it wins
 abbrev pub stateOf : Trial → LeastSoFar
-stateOf t = record { rmse = record { 0 = t .rmse }; shift = record { 0 = t .shift }; offset = record { 0 = t .offset } }
+stateOf t = record { rmse = record { 0 = t .rmse }; shift = record { 0 = t .shift }; «frequency_offset» = record { 0 = t .frequencyOffset } }
 
 -- the largest finite double, 0 and 0 at first
 abbrev pub state : Best → LeastSoFar
-state noneYet = record { rmse = record { 0 = largestFinite }; shift = record { 0 = nought }; offset = record { 0 = nought } }
+state noneYet = record { rmse = record { 0 = largestFinite }; shift = record { 0 = nought }; «frequency_offset» = record { 0 = nought } }
 state (found t) = stateOf t
 
 -- a later trial wins only by a smaller RMSE
@@ -37,7 +37,7 @@ updates s (t ∷ ts) = updates (update s t) ts
 
 -- the report by the state
 abbrev pub reportOfState : Basis → LeastSoFar → Report
-reportOfState basis s = reportOf basis (s .shift .0) (s .offset .0) (s .rmse .0)
+reportOfState basis s = reportOf basis (s .shift .0) (s .«frequency_offset» .0) (s .rmse .0)
 
 module _ (try : Float → Trial) where
   -- after the shifts of a stage

@@ -93,7 +93,7 @@ pub(crate) fn fit_about(
         coarse,
     );
     let clock_offset = best.shift;
-    let frequency_offset = best.offset;
+    let frequency_offset = best.frequency_offset;
     let rmse = best.rmse;
     FitAnswer::Reported(Report {
         clock_offset,

@@ -51,7 +51,7 @@ pub(crate) struct Stage {
 pub(crate) struct LeastSoFar {
     pub(crate) rmse: Hertz,
     pub(crate) shift: Seconds,
-    pub(crate) offset: Hertz,
+    pub(crate) frequency_offset: Hertz,
 }
 
 // The better of the least so far and the trial of a shift: the shift wins only with enough residuals and a smaller RMSE.
@@ -83,13 +83,13 @@ fn try_shift(
         return best;
     }
     let n = nearest(count as i64);
-    let offset = sum_of(values, count) / n;
-    let rmse = sqrt(squares_of(values, count, offset) / n);
+    let frequency_offset = sum_of(values, count) / n;
+    let rmse = sqrt(squares_of(values, count, frequency_offset) / n);
     if rmse < best.rmse.0 {
         return LeastSoFar {
             rmse: Hertz(rmse),
             shift,
-            offset: Hertz(offset),
+            frequency_offset: Hertz(frequency_offset),
         };
     }
     best
@@ -188,7 +188,7 @@ pub(crate) fn coarse_stage(
     let none = LeastSoFar {
         rmse: Hertz(LARGEST_FINITE),
         shift: Seconds(0.0),
-        offset: Hertz(0.0),
+        frequency_offset: Hertz(0.0),
     };
     let best = run_stage(
         instants,

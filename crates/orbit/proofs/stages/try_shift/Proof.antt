@@ -1,5 +1,5 @@
--- The values hold the residuals, their mean is the offset and the root of their mean squared rest the RMSE; the tests are the definition's. Assumes
--- nothing.
+-- The values hold the residuals, their mean is the frequency offset and the root of their mean squared rest the RMSE; the tests are the definition's.
+-- Assumes nothing.
 use mathlib.Core.Path.{_≡_, ap, _∙_}
 use mathlib.Core.List.{List, map}
 use Prim.Native.Nat.{_/_, _≤_, _<_}
@@ -87,8 +87,8 @@ count-is c =
 abbrev collected : tie.After-sum-of → tie.After-collect-residuals
 collected c = c .before .before .before .before .before .before
 
-offset-is : (c : tie.After-sum-of) → c .sum-of .result ⊘ c .before .before .nearest .result ≡ meanOver (values-of (collected c))
-offset-is c =
+frequency-offset-is : (c : tie.After-sum-of) → c .sum-of .result ⊘ c .before .before .nearest .result ≡ meanOver (values-of (collected c))
+frequency-offset-is c =
     let at = collected c in
     ap (λ (x : Float). c .sum-of .result ⊘ x) (count-is (c .before .before)) ∙ mean-is (values-of at) (at .collect-residuals .result) (c .sum-of .result) (length-values at) (c .sum-of .ensures)
 
@@ -99,7 +99,7 @@ rmse-is c =
     let at = collected sum in
     let ys = values-of at in
     let m = meanOver ys in
-    let e : squares .result ≡ sumFrom minusZero (map (squaredDeviation m) ys) = squares .ensures ∙ ap (λ (x : Float). sumFrom minusZero (map (squaredDeviation x) ys)) (offset-is sum) in
+    let e : squares .result ≡ sumFrom minusZero (map (squaredDeviation m) ys) = squares .ensures ∙ ap (λ (x : Float). sumFrom minusZero (map (squaredDeviation x) ys)) (frequency-offset-is sum) in
     c .sqrt .ensures
     ∙ ap (root binary64)
     (ap (λ (x : Float). squares .result ⊘ x) (count-is (sum .before .before))
@@ -117,7 +117,7 @@ returns-2 c =
     let sum = rooted .before .before .before in
     let at = collected sum in
     let s = start-of at in
-    won (residual-of s) (samples-of s) (s .args .shift .0) (values-of at) (at .collect-residuals .ensures .1) (s .args .best) _ _ (enough-of (sum .before .before .before)) (offset-is sum) (rmse-is rooted) (c .if2 .taken)
+    won (residual-of s) (samples-of s) (s .args .shift .0) (values-of at) (at .collect-residuals .ensures .1) (s .args .best) _ _ (enough-of (sum .before .before .before)) (frequency-offset-is sum) (rmse-is rooted) (c .if2 .taken)
 
 same-length-3 : tie.Need-same-length-3
 same-length-3 c = search needs
@@ -128,7 +128,7 @@ returns-3 c =
     let sum = rooted .before .before .before in
     let at = collected sum in
     let s = start-of at in
-    lost (residual-of s) (samples-of s) (s .args .shift .0) (values-of at) (at .collect-residuals .ensures .1) (s .args .best) _ _ (enough-of (sum .before .before .before)) (offset-is sum) (rmse-is rooted) (c .if2 .left)
+    lost (residual-of s) (samples-of s) (s .args .shift .0) (values-of at) (at .collect-residuals .ensures .1) (s .args .best) _ _ (enough-of (sum .before .before .before)) (frequency-offset-is sum) (rmse-is rooted) (c .if2 .left)
 
 pub try-shift-spec : {M : Type 1} → statement M
 try-shift-spec =
