@@ -13,7 +13,7 @@ use units::Nanoseconds;
 use units::SECOND_MILLISECONDS;
 use units::Seconds;
 
-// Slopes under it are passed over, in hertz for each second.
+// Slopes under it are passed over by the steepest slope, in hertz for each second; the measured approach passes over none.
 const SLOPE_FLOOR: f64 = -120.0;
 
 // The measured approach: its instant, or the refusal (2, 4; 9 where no slope is below zero).

@@ -12,8 +12,8 @@ const SATELLITE_SPEED: f64 = 7585.0;
 // A slope of no more than this magnitude tells no range, in hertz for each second.
 const LEAST_STEEPNESS: f64 = 0.1;
 
-// The range that is answered then, in metres.
-const FALLBACK_RANGE: f64 = 2000000.0;
+// The range that is answered then.
+const FALLBACK_RANGE: Metres = Metres(2000000.0);
 
 // The distance to the satellite at its closest, from the centre frequency and the steepest slope in hertz for each second.
 pub fn estimate_slant_range(f0: Hertz, slope: f64) -> Metres
@@ -23,5 +23,5 @@ pub fn estimate_slant_range(f0: Hertz, slope: f64) -> Metres
     if steepness > LEAST_STEEPNESS {
         return Metres((f0.0 * SATELLITE_SPEED * SATELLITE_SPEED) / (LIGHT_SPEED * steepness));
     }
-    Metres(FALLBACK_RANGE)
+    FALLBACK_RANGE
 }
