@@ -98,17 +98,18 @@ fn seconds_in(instants: &[i64], start: usize) -> [f64; 10]
     t
 }
 
-// Whether a gap of the window differs from the mean gap by more than the tolerance.
+// Whether a gap of the window differs from the mean gap by more than the tolerance. All nine are looked at: without a way out of the loop it is faster.
 fn is_uneven(t: [f64; 10], tolerance: Seconds) -> bool
     ensures { λ r. ⌜ r ≡ uneven tolerance t ⌝ }
 {
     let gap = (t[9] - t[0]) / 9.0;
+    let mut uneven = false;
     for k in 0..9 {
         if magnitude((t[k + 1] - t[k]) - gap) > tolerance.0 {
-            return true;
+            uneven = true;
         }
     }
-    false
+    uneven
 }
 
 // τ of a time between t0 and t9: −1 at the first, 1 at the last.

@@ -1,6 +1,8 @@
--- No gap before k is wide, so the rest decides; a wide gap decides at once. Assumes nothing.
+-- The gaps before k were wide, or else the rest decides; a wide gap settles it. Assumes nothing.
 use mathlib.Core.Path.{_≡_, refl, sym, ap, _∙_}
-use Prim.Native.Nat.{_-_, _≤_}
+use mathlib.Core.Bool.{Bool, true, false, _||_}
+use mathlib.Core.Logic.{⊎-elim}
+use Prim.Native.Nat.{_+_, _-_, _≤_}
 use native.Mathlib.Omega.{arith}
 use lib.ListN.{length}
 use lib.Ieee.{lt, ofBits}
@@ -13,10 +15,18 @@ use Rattle.orbit.proofs.window.is_uneven.Statement.{statement}
 use Rattle.orbit.proofs.window.is_uneven.Tie as tie
 
 abbrev Inv-loop : tie.InvT-loop
-Inv-loop tolerance t gap k₀ k = (k ≤ 9) × (length t ≡ 10) × (gap ≡ (lastTime t ⊖ firstTime t) ⊘ nine) × (wideFrom k tolerance t ≡ uneven tolerance t)
+Inv-loop tolerance t gap wide₀ k₀ wide k = (k ≤ 9) × (length t ≡ 10) × (gap ≡ (lastTime t ⊖ firstTime t) ⊘ nine) × (wide || wideFrom k tolerance t ≡ uneven tolerance t)
 
 abbrev μ-loop : tie.MeasureT-loop
-μ-loop tolerance t gap k₀ k = 9 - k
+μ-loop tolerance t gap wide₀ k₀ wide k = 9 - k
+
+or-true : (b : Bool) → b || true ≡ true
+or-true true = refl
+or-true false = refl
+
+or-false : (b : Bool) → b || false ≡ b
+or-false true = refl
+or-false false = refl
 
 array-read-gap : tie.Need-array-read-gap Inv-loop μ-loop
 array-read-gap c = search needs
@@ -46,13 +56,6 @@ array-read-magnitude-2 c = search needs
 magnitude-requires : tie.Need-magnitude-requires Inv-loop μ-loop
 magnitude-requires c κs = search needs
 
-returns : tie.Need-returns Inv-loop μ-loop
-unfolding ofBits
-returns c =
-    let at = c .before .before .before .before .loop in
-    let args = c .before .before .before .before .before .args in
-    sym (wide-found (args .tolerance) (args .t1) (at .k) (omega arith) (ap (lt (args .tolerance .0)) (sym (c .before .before .magnitude .ensures)) ∙ c .if1 .taken)) ∙ at .inv .3
-
 add-k : tie.Need-add-k Inv-loop μ-loop
 add-k c = search needs
 
@@ -64,13 +67,27 @@ unfolding ofBits
 loop-again c =
     let at = c .before .before .before .before .loop in
     let args = c .before .before .before .before .before .args in
-    (search needs, at .inv .1, refl, wide-passed (args .tolerance) (args .t1) (at .k) (omega arith) (ap (lt (args .tolerance .0)) (sym (c .before .before .magnitude .ensures)) ∙ c .if1 .left) ∙ at .inv .3)
+    let tested = c .before .before .magnitude .ensures in
+    let rest = wideFrom (at .k + 1) (args .tolerance) (args .t1) in
+    let next =
+    ⊎-elim
+    (λ w.
+    ap (λ (b : Bool). b || rest) (w .1)
+    ∙ sym (or-true (at .uneven))
+    ∙ ap (λ (b : Bool). at .uneven || b) (sym (wide-found (args .tolerance) (args .t1) (at .k) (omega arith) (ap (lt (args .tolerance .0)) (sym tested) ∙ w .0 .taken)))
+    ∙ at .inv .3)
+    (λ w.
+    ap (λ (b : Bool). b || rest) (w .1)
+    ∙ ap (λ (b : Bool). at .uneven || b) (wide-passed (args .tolerance) (args .t1) (at .k) (omega arith) (ap (lt (args .tolerance .0)) (sym tested) ∙ w .0 .left))
+    ∙ at .inv .3)
+    (c .if1 .came) in
+    (search needs, at .inv .1, refl, next)
 
-returns-2 : tie.Need-returns-2 Inv-loop μ-loop
-returns-2 c =
+returns : tie.Need-returns Inv-loop μ-loop
+returns c =
     let at = c .before .loop in
     let args = c .before .before .args in
-    sym (wide-end (args .tolerance) (args .t1) (at .k) (omega arith)) ∙ at .inv .3
+    sym (or-false (at .uneven)) ∙ ap (λ (b : Bool). at .uneven || b) (sym (wide-end (args .tolerance) (args .t1) (at .k) (omega arith))) ∙ at .inv .3
 
 pub is-uneven-spec : {M : Type 1} → statement M
 is-uneven-spec =
@@ -87,8 +104,7 @@ is-uneven-spec =
     mul-magnitude-2
     array-read-magnitude-2
     magnitude-requires
-    returns
     add-k
     loop-less
     loop-again
-    returns-2)
+    returns)
