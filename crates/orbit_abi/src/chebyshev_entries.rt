@@ -14,7 +14,8 @@ pub extern "C" fn orbit_evaluate_chebyshev(
     value: &mut f64,
     slope: &mut f64,
 )
-    ensures { λ r. ⌜ (now (value .exit) ≡ evaluateChebyshev (now (c .entry)) tau .value) × (now (slope .exit) ≡ evaluateChebyshev (now (c .entry)) tau .slope) ⌝ }
+    ensures { λ r. ⌜
+        (now (value .exit) ≡ evaluateChebyshev (now (c .entry)) tau .value) × (now (slope .exit) ≡ evaluateChebyshev (now (c .entry)) tau .slope) ⌝ }
 {
     let e = chebyshev::evaluate_chebyshev(*c, tau);
     *value = e.value;
