@@ -83,11 +83,29 @@ meansLines =
     ∷ case (whole (wholeSecond (pos 0))) (whole (pos 0))
     ∷ []
 
+-- the lines of the leaves and of the window
+abbrev leafLines : List Case
+leafLines = rootLines ++ chebyshevLines ++ startLines
+
 -- all lines marked P
 abbrev pub table : List Case
-table = rootLines ++ chebyshevLines ++ startLines ++ meansLines
+table = leafLines ++ meansLines
+
+-- what the definitions give, and what the paper says
+abbrev given : List Case → List Value
+given = map (λ (c : Case). c .given)
+
+abbrev paper : List Case → List Value
+paper = map (λ (c : Case). c .paper)
+
+leaves-hold : given leafLines ≡ paper leafLines
+unfolding root rootOf wholeRoot rootIn round add sub mul div ofInt listOf weightedFrom T T′
+leaves-hold = refl
+
+means-hold : given meansLines ≡ paper meansLines
+unfolding round add div ofInt recording bin insert seconds offsetSum sumFrom meanInstant meanFrequency meanOf means
+means-hold = refl
 
 -- the definitions meet every line
-pub table-holds : map (λ (c : Case). c .given) table ≡ map (λ (c : Case). c .paper) table
-unfolding root rootOf wholeRoot rootIn round add sub mul div ofInt listOf weightedFrom T T′ recording bin insert seconds offsetSum sumFrom meanInstant meanFrequency meanOf means
-table-holds = refl
+pub table-holds : given table ≡ paper table
+table-holds = λ i. leaves-hold i ++ means-hold i

@@ -1,6 +1,6 @@
 -- The gaps before k were wide, or else the rest decides; a wide gap settles it. Assumes nothing.
 use mathlib.Core.Path.{_≡_, refl, sym, ap, _∙_}
-use mathlib.Core.Bool.{Bool, true, false, _||_}
+use mathlib.Core.Bool.{Bool, true, false, _||_, or-true, or-false}
 use mathlib.Core.Logic.{⊎-elim}
 use Prim.Native.Nat.{_+_, _-_, _≤_}
 use native.Mathlib.Omega.{arith}
@@ -19,14 +19,6 @@ Inv-loop tolerance t gap wide₀ k₀ wide k = (k ≤ 9) × (length t ≡ 10) ×
 
 abbrev μ-loop : tie.MeasureT-loop
 μ-loop tolerance t gap wide₀ k₀ wide k = 9 - k
-
-or-true : (b : Bool) → b || true ≡ true
-or-true true = refl
-or-true false = refl
-
-or-false : (b : Bool) → b || false ≡ b
-or-false true = refl
-or-false false = refl
 
 array-read-gap : tie.Need-array-read-gap Inv-loop μ-loop
 array-read-gap c = search needs
