@@ -91,21 +91,24 @@ leafLines = rootLines ++ chebyshevLines ++ startLines
 abbrev pub table : List Case
 table = leafLines ++ meansLines
 
--- what the definitions give, and what the paper says
+-- what the definitions give
 abbrev given : List Case → List Value
 given = map (λ (c : Case). c .given)
 
+-- what the paper says
 abbrev paper : List Case → List Value
 paper = map (λ (c : Case). c .paper)
 
+-- the definitions meet the lines of root, Chebyshev sum and window
 leaves-hold : given leafLines ≡ paper leafLines
 unfolding root rootOf wholeRoot rootIn round add sub mul div ofInt listOf weightedFrom T T′
 leaves-hold = refl
 
+-- the definitions meet the lines of the means
 means-hold : given meansLines ≡ paper meansLines
 unfolding round add div ofInt recording bin insert seconds offsetSum sumFrom meanInstant meanFrequency meanOf means
 means-hold = refl
 
--- the definitions meet every line
+-- the definitions meet every line: both halves, one after the other
 pub table-holds : given table ≡ paper table
 table-holds = λ i. leaves-hold i ++ means-hold i

@@ -31,7 +31,7 @@ order = 10
 abbrev pub leastPivot : Float
 leastPivot = fin false 4951760157141521 (negsuc 91)
 
--- the refusal of a singular matrix
+-- 8. "A column's pivot, found as the module below says, has a magnitude below 1e-12"
 abbrev pub singularRefusal : ℕ
 singularRefusal = 8
 

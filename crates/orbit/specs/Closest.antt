@@ -42,7 +42,7 @@ rangeIn o (answered m) = squaredRange o (m .position)
 abbrev pub nearer : LeastRange → LeastRange → Bool
 nearer a b = lt (a .range) (b .range)
 
--- a stage begins with its centre: "only squared ranges below the largest finite double count; a stage without one keeps its centre"
+-- a stage begins with its centre: "Only squared ranges below the largest finite double count; a stage without one keeps its centre"
 abbrev pub centred : ℤ → LeastRange
 centred offset = record { range = largestFinite; offset = offset }
 
