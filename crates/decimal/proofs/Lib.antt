@@ -1,0 +1,3 @@
+-- What the proofs of decimal share, and the laws that the crates above cite (`pub`).
+mod Bytes
+pub mod Bounds

@@ -1,0 +1,44 @@
+-- Cases by computation: what the definition gives for single texts.
+use Prim.Native.Nat.{ℕ}
+use Prim.Native.Char.{code}
+use Prim.Native.String.{String}
+use Prim.Native.String.{[] as none, _∷_ as _then_}
+use mathlib.Core.Path.{_≡_, refl}
+use mathlib.Core.Bool.{Bool, true, false}
+use mathlib.Core.List.{List, [], _∷_}
+use Rattle.decimal.specs.declared.reading.Field.{Field}
+use Rattle.decimal.specs.declared.reading.Field.the-variants.{Holds, Other}
+use Rattle.decimal.specs.Reading.{afterBlanks, digitsBehind, someDigits, signedDigits, withDecimals, wholeOf, decimalOf}
+
+-- the bytes of a text in ASCII
+abbrev text : String → List ℕ
+text none = []
+text (c then s) = code c ∷ text s
+
+-- a number with its sign
+abbrev number : Bool → ℕ → Field
+number s n = Holds (record { negative = s; digits = n })
+
+-- blanks and leading zeros change nothing; −0 keeps its sign
+pub wholes : (wholeOf false (text "2024") ≡ number false 2024) × (wholeOf false (text " 7") ≡ number false 7)
+    × (wholeOf false (text "007") ≡ number false 7) × (wholeOf true (text "  -12") ≡ number true 12) × (wholeOf true (text "-0") ≡ number true 0)
+unfolding afterBlanks digitsBehind someDigits signedDigits
+wholes = (refl, refl, refl, refl, refl)
+
+-- blanks alone, a minus alone, a blank behind the minus, a blank behind the digits, a plus, a minus where none may stand, 19 columns
+pub noWholes : (wholeOf true (text "  ") ≡ Other) × (wholeOf true (text " -") ≡ Other) × (wholeOf true (text "- 7") ≡ Other)
+    × (wholeOf true (text "7 ") ≡ Other) × (wholeOf true (text "+7") ≡ Other) × (wholeOf false (text "-7") ≡ Other)
+    × (wholeOf false (text "                  1") ≡ Other)
+unfolding afterBlanks digitsBehind someDigits signedDigits
+noWholes = (refl, refl, refl, refl, refl, refl, refl)
+
+-- the point at place 4
+pub decimals : (decimalOf true 4 (text "  -7.250") ≡ number true 7250) × (decimalOf true 4 (text "1234.5") ≡ number false 12345)
+unfolding afterBlanks digitsBehind someDigits signedDigits withDecimals
+decimals = (refl, refl)
+
+-- no digit before the point, the point a column early, a blank for a decimal, no point at all
+pub noDecimals : (decimalOf true 4 (text "    .250") ≡ Other) × (decimalOf true 4 (text "  7.2500") ≡ Other)
+    × (decimalOf true 4 (text "   7.25 ") ≡ Other) × (decimalOf true 4 (text "   7") ≡ Other)
+unfolding afterBlanks digitsBehind someDigits signedDigits withDecimals
+noDecimals = (refl, refl, refl, refl)

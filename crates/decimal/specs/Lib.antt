@@ -1,0 +1,3 @@
+-- Numbers in columns, read.
+pub mod Reading
+pub mod Cases
