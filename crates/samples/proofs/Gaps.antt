@@ -7,8 +7,9 @@ use lib.Dec.{ltb}
 use lib.IntN.{ℤ, pos, negsuc, negℤ, natAbs, subℕ, _-ℤ_}
 use lib.Signed.{mag, quotZ}
 use mir.Syntax.{w64}
-use mir.Val.{SFits, toZ, ofZ}
+use mir.Val.{SFits}
 use mir.ValLaws.{toZ-ofZ}
+use Rattle.common.proofs.Parts.{back}
 use Rattle.float.proofs.SignedBounds.{mag-either}
 use Rattle.samples.specs.Runs.{farthestMoved}
 
@@ -34,10 +35,6 @@ mag-quotient (pos a) k = div-le-self a k
 mag-quotient (negsuc a) k = mag-neg (suc a / k) a (div-le-self (suc a) k)
 
 -- ---- as the machine holds them
-
--- what the machine reads back from a number's bits; it is the number (`mir.ValLaws.toZ-ofZ`)
-abbrev pub back : ℤ → ℤ
-back z = toZ w64 (ofZ w64 z)
 
 -- an instant that is within the limit, or was before it was moved
 abbrev pub Near : ℤ → Type 0

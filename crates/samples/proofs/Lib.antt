@@ -3,7 +3,6 @@ pub mod Gaps
 mod Slopes
 mod Answers
 pub mod FirstSlope
-mod Parts
 mod Starts
 pub mod Seconds
 pub mod OwnSeconds

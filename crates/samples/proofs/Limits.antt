@@ -11,13 +11,13 @@ use lib.ListN.{length, getD, take, drop, List·getD-eq-default}
 use lib.Seq.{getD-take, getD-drop, length-take-le}
 use lib.Ieee.{Float}
 use mir.Syntax.{w64}
+use mir.Val.{SFits}
 use mir.ValLaws.{toZ-ofZ}
+use Rattle.common.proofs.Parts.{within-fits, abs-parts, back}
 use Rattle.checks.specs.Limits.{farthestInstant}
 use Rattle.samples.specs.Means.{Sample, wholeSecond, eqZ, bin, recording, instants, Alike}
 use Rattle.samples.specs.Runs.{Limited}
 use Rattle.samples.specs.Sorting.{SameBins}
-use Rattle.samples.proofs.Gaps.{back}
-use Rattle.samples.proofs.Parts.{limit-fits}
 use Rattle.samples.proofs.Starts.{eq→eqZ}
 use Rattle.samples.proofs.Recordings.{record-length, record-instants}
 
@@ -35,7 +35,10 @@ limited-take (suc n) (x ∷ l) h (suc k) = limited-take n l (λ j. h (suc j)) k
 pub limited-drop : (n : ℕ) (l : List ℤ) → Limited l → Limited (drop n l)
 limited-drop n l h k = subst (λ (z : ℤ). natAbs z ≤ farthestInstant) (sym (getD-drop n l k (pos 0))) (h (n + k))
 
--- as the machine reads it back
+-- as the machine holds it and reads it back
+pub limit-fits : (t : ℤ) → natAbs t ≤ farthestInstant → SFits w64 t
+limit-fits t h = within-fits t (omega (arith, abs-parts t))
+
 pub limit-back : (t : ℤ) → natAbs t ≤ farthestInstant → natAbs (back t) ≤ farthestInstant
 limit-back t h = subst (λ (z : ℤ). natAbs z ≤ farthestInstant) (sym (toZ-ofZ w64 t (limit-fits t h))) h
 

@@ -11,9 +11,9 @@ use lib.IntN.{ℤ, pos, _+ℤ_}
 use lib.Signed.{_<ℤ_, _≤ℤ_, clashℤ}
 use lib.ListN.{length, getD, length-map}
 use lib.Ieee.{Float, nan}
+use Rattle.common.proofs.Parts.{lt-parts, parts-le, parts-lt, add-parts}
 use Rattle.samples.specs.Means.{Sample, wholeSecond, bin, seconds, recording, meanOf, means, instants, frequencies, Rising}
 use Rattle.samples.specs.Runs.{secondAt}
-use Rattle.samples.proofs.Parts.{lt-parts, parts-le, parts-lt, add-parts}
 use Rattle.samples.proofs.Seconds.{inserted, kept, only, under-at, rising}
 use Rattle.samples.proofs.Recordings.{noSample, record-length, record-at}
 

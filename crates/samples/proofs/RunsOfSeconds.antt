@@ -13,10 +13,10 @@ use lib.Signed.{ltZ, _<ℤ_, _≤ℤ_, ≤ℤ-refl, ltZ-no}
 use lib.ListN.{length, getD, take, drop, take-append-drop, length-take, length-drop}
 use lib.Seq.{drop-drop, getD-take, getD-drop, length-take-le}
 use lib.Ieee.{Float}
+use Rattle.common.proofs.Parts.{lt-apart, le-parts, lt-parts, parts-le, parts-lt, parts-eq, add-parts}
 use Rattle.samples.specs.Means.{Sample, wholeSecond, eqZ, bin, seconds, recording}
 use Rattle.samples.specs.Sums.{Recorded, OneSecond}
 use Rattle.samples.specs.Runs.{secondAt, NeverFalls, Begins, Run}
-use Rattle.samples.proofs.Parts.{lt-apart, le-parts, lt-parts, parts-le, parts-lt, parts-eq, add-parts}
 use Rattle.samples.proofs.Starts.{eqZ→eq, eq→eqZ}
 use Rattle.samples.proofs.Seconds.{bin-append, rising}
 use Rattle.samples.proofs.Limits.{limited-take, limited-drop}

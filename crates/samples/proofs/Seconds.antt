@@ -9,8 +9,8 @@ use lib.Dec.{T}
 use lib.IntN.{ℤ}
 use lib.Signed.{ltZ, _<ℤ_, ltZ-yes, ltZ-no, <ℤ-irrefl}
 use lib.ListN.{length, length-map}
+use Rattle.common.proofs.Parts.{le-parts, lt-parts, parts-lt, parts-eq}
 use Rattle.samples.specs.Means.{Sample, wholeSecond, eqZ, bin, insert, seconds, meanOf, means, Alike, Under, Rising}
-use Rattle.samples.proofs.Parts.{le-parts, lt-parts, parts-lt, parts-eq}
 use Rattle.samples.proofs.Starts.{eqZ→eq, eqZ-refl}
 
 -- ---- the order of ℤ

@@ -9,12 +9,11 @@ use lib.Signed.{ltZ, leZ}
 use mir.Syntax.{w64}
 use mir.Val.{SFits}
 use mir.ValLaws.{toZ-ofZ}
+use Rattle.common.proofs.Parts.{back, over, under, le-parts, parts-le, lt-parts, parts-lt, parts-eq, add-parts, over-times, under-times, abs-parts, within-fits}
 use Rattle.checks.specs.Limits.{farthestInstant}
 use Rattle.common.specs.Time.{second}
 use Rattle.samples.specs.Means.{wholeSecond, eqZ}
 use Rattle.samples.specs.Sums.{secondStart, StartsSecond}
-use Rattle.samples.proofs.Gaps.{back}
-use Rattle.samples.proofs.Parts.{over, under, le-parts, parts-le, lt-parts, parts-lt, parts-eq, add-parts, over-times, under-times, abs-parts, within-fits}
 
 -- ---- tests
 

@@ -11,6 +11,7 @@ use lib.Seq.{take-suc, take-all, length-take-le}
 use lib.Ieee.{Float}
 use mir.Syntax.{w64}
 use mir.Val.{SFits}
+use Rattle.common.proofs.Parts.{Within, within-parts, within-fits, over-times, under-times, add-parts, abs-parts}
 use Rattle.common.specs.Numbers.{nought}
 use Rattle.common.specs.Rounded.{_⊘_}
 use Rattle.common.specs.Sums.{sumFrom}
@@ -18,7 +19,6 @@ use Rattle.common.specs.Time.{microsecond}
 use Rattle.float.specs.Conversions.{nearestOf}
 use Rattle.samples.specs.Means.{Sample, wholeSecond, recording, frequencies, offsetSum, meanInstant, meanFrequency, meanOf}
 use Rattle.samples.specs.Sums.{OneSecond, asMean}
-use Rattle.samples.proofs.Parts.{Within, within-parts, within-fits, over-times, under-times, add-parts, abs-parts}
 use Rattle.samples.proofs.Recordings.{noSample, record-length, record-at}
 use Rattle.samples.proofs.OwnSeconds.{All, all-take, farthestApart, near-second, offsets-within, mean-within}
 use Rattle.samples.proofs.Places.{at-is}

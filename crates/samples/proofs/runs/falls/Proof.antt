@@ -8,10 +8,9 @@ use lib.Signed.{ltZ, leZ, mag-shr, ltZ-yes, leZ-yes, clashℤ}
 use mir.Syntax.{w64}
 use mir.Val.{SFits}
 use mir.ValLaws.{toZ-ofZ, sfits-le}
+use Rattle.common.proofs.Parts.{back, read-test}
 use Rattle.common.specs.Time.{second}
 use Rattle.samples.specs.Means.{wholeSecond}
-use Rattle.samples.proofs.Gaps.{back}
-use Rattle.samples.proofs.Parts.{read-test}
 use Rattle.samples.proofs.Starts.{holds, same-test, second-le}
 use Rattle.samples.proofs.runs.falls.Statement.{statement}
 use Rattle.samples.proofs.runs.falls.Tie as tie

@@ -14,7 +14,7 @@ use Rattle.samples.specs.declared.sums.Mean.{Mean}
 use Rattle.samples.specs.Means.{Sample, bin, recording, meanOf}
 use Rattle.samples.specs.Sums.{asMean, StartsSecond}
 use Rattle.samples.specs.Runs.{secondAt}
-use Rattle.samples.proofs.Parts.{limit-fits}
+use Rattle.samples.proofs.Limits.{limit-fits}
 use Rattle.samples.proofs.Starts.{start-at, start-is, second-is}
 use Rattle.samples.proofs.RunsOfSeconds.{run-one, run-is-bin}
 use Rattle.samples.proofs.runs.write_run.Statement.{statement}

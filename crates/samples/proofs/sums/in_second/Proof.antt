@@ -7,10 +7,9 @@ use lib.Signed.{ltZ, ltZ-no}
 use mir.Syntax.{w64}
 use mir.Val.{SFits}
 use mir.ValLaws.{toZ-ofZ}
+use Rattle.common.proofs.Parts.{back, lt-apart, read-test}
 use Rattle.common.specs.Time.{second}
 use Rattle.samples.specs.Means.{wholeSecond, eqZ}
-use Rattle.samples.proofs.Gaps.{back}
-use Rattle.samples.proofs.Parts.{lt-apart, read-test}
 use Rattle.samples.proofs.Starts.{holds, fails, same-test, eqZ→eq, eq→eqZ, before-start, past-start, from-start, next-fits}
 use Rattle.samples.proofs.sums.in_second.Statement.{statement}
 use Rattle.samples.proofs.sums.in_second.Tie as tie

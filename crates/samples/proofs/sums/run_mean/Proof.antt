@@ -10,6 +10,7 @@ use lib.Ieee.{Float}
 use mir.Syntax.{w64}
 use mir.Val.{SFits, toZ}
 use mir.ValLaws.{toZ-ofZ, toZ-pos}
+use Rattle.common.proofs.Parts.{back}
 use Rattle.common.specs.Numbers.{nought}
 use Rattle.common.specs.Rounded.{_⊘_}
 use Rattle.common.specs.Sums.{sumFrom}
@@ -18,8 +19,7 @@ use Rattle.float.specs.Conversions.{nearestOf}
 use Rattle.samples.specs.declared.sums.Sums.{Sums}
 use Rattle.samples.specs.Means.{recording, frequencies, offsetSum}
 use Rattle.samples.specs.Sums.{OneSecond, asMean}
-use Rattle.samples.proofs.Gaps.{back}
-use Rattle.samples.proofs.Parts.{limit-fits}
+use Rattle.samples.proofs.Limits.{limit-fits}
 use Rattle.samples.proofs.SumsOfSeconds.{base, sum-fits, share, share-fits, offset-fits, mean-fits, mean-is}
 use Rattle.samples.proofs.sums.run_mean.Statement.{statement}
 use Rattle.samples.proofs.sums.run_mean.Tie as tie

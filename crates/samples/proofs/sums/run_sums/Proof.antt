@@ -12,12 +12,13 @@ use lib.Ieee.{ofBits}
 use mir.Syntax.{w64}
 use mir.Val.{SFits, toZ}
 use mir.ValLaws.{toZ-ofZ}
+use Rattle.common.proofs.Parts.{back}
 use Rattle.common.specs.Numbers.{nought}
 use Rattle.common.specs.Sums.{sumFrom}
 use Rattle.common.specs.Time.{microsecond}
 use Rattle.common.proofs.Sums.{sum-step, sum-end}
 use Rattle.samples.specs.Means.{recording, frequencies, offsetSum}
-use Rattle.samples.proofs.Gaps.{back, Near, subtracts, divides, divided}
+use Rattle.samples.proofs.Gaps.{Near, subtracts, divides, divided}
 use Rattle.samples.proofs.Recordings.{record-frequencies}
 use Rattle.samples.proofs.SumsOfSeconds.{long, offsets-more, offsets-fit}
 use Rattle.samples.proofs.sums.run_sums.Statement.{statement}

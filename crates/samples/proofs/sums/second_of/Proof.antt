@@ -10,9 +10,8 @@ use lib.Signed.{leZ, quotZ, shrZ, mag-shr}
 use mir.Syntax.{w64}
 use mir.Val.{SFits}
 use mir.ValLaws.{toZ-ofZ, toZ-pos, sfits-le}
+use Rattle.common.proofs.Parts.{back, minus-parts, parts-eq}
 use Rattle.common.specs.Time.{second}
-use Rattle.samples.proofs.Gaps.{back}
-use Rattle.samples.proofs.Parts.{minus-parts, parts-eq}
 use Rattle.samples.proofs.sums.second_of.Statement.{statement}
 use Rattle.samples.proofs.sums.second_of.Tie as tie
 

@@ -6,10 +6,10 @@ use mir.Syntax.{w64}
 use mir.Val.{SFits}
 use mir.ValLaws.{toZ-ofZ, sfits-le}
 use lib.Signed.{mag-shr}
+use Rattle.common.proofs.Parts.{back}
 use Rattle.common.specs.Time.{second}
 use Rattle.samples.specs.Means.{wholeSecond}
 use Rattle.samples.specs.Sums.{secondStart}
-use Rattle.samples.proofs.Gaps.{back}
 use Rattle.samples.proofs.Starts.{start-at, start-fits}
 use Rattle.samples.proofs.sums.second_start.Statement.{statement}
 use Rattle.samples.proofs.sums.second_start.Tie as tie

@@ -1,17 +1,16 @@
--- A whole number as its part above zero less its part below zero: orders, sums, differences and quotients of whole numbers become sums of natural numbers, which `omega` reads. Assumes nothing.
+-- A whole number as its part above zero less its part below zero: orders, sums, differences, products and quotients of whole numbers become sums of natural numbers, which `omega` reads.
+-- And a whole number as the machine holds it. Assumes nothing.
 use mathlib.Core.Path.{_≡_, refl, sym, ap, _∙_, subst}
 use mathlib.Core.Logic.{_⊎_, inl, inr}
-use mathlib.Core.Bool.{Bool, true, false, not, cond}
+use mathlib.Core.Bool.{Bool, true, false, not, cond, false≢true}
 use Prim.Native.Nat.{ℕ, zero, suc, _+_, _-_, _*_, _/_, _≤_, _<_}
 use native.Mathlib.Omega.{arith}
-use lib.Dec.{T, ltb, ltb→lt, lt→ltb, leb→le, le→leb, nltb→le}
+use lib.Dec.{T, ltb, ltb→lt, lt→ltb, leb→le, le→leb, nltb→le, leb·suc-suc}
 use lib.IntN.{ℤ, pos, negsuc, negℤ, natAbs, subℕ, _+ℤ_, _-ℤ_, _*ℤ_}
 use lib.Signed.{ltZ, leZ, quotZ}
-use Rattle.checks.specs.Limits.{farthestInstant}
 use mir.Syntax.{w64}
-use mir.Val.{SFits}
+use mir.Val.{SFits, toZ, ofZ}
 use mir.ValLaws.{toZ-ofZ}
-use Rattle.samples.proofs.Gaps.{back}
 
 -- the part above zero
 abbrev pub over : ℤ → ℕ
@@ -93,18 +92,15 @@ minus-parts a b = omega (arith, add-parts a (negℤ b), over-neg b, under-neg b)
 
 -- ---- products and quotients
 
+zero-times : (k : ℕ) → 0 * k ≡ 0
+zero-times k = omega arith
+
 pub over-times : (a : ℤ) (k : ℕ) → over (a *ℤ pos k) ≡ over a * k
 over-times (pos a) k = refl
 over-times (negsuc a) k = over-neg (pos (suc a * k)) ∙ sym (zero-times k)
-  where
-    zero-times : (k : ℕ) → 0 * k ≡ 0
-    zero-times k = omega arith
 
 pub under-times : (a : ℤ) (k : ℕ) → under (a *ℤ pos k) ≡ under a * k
 under-times (pos a) k = sym (zero-times k)
-  where
-    zero-times : (k : ℕ) → 0 * k ≡ 0
-    zero-times k = omega arith
 under-times (negsuc a) k = under-neg (pos (suc a * k))
 
 -- toward zero
@@ -138,10 +134,27 @@ pub abs-parts : (a : ℤ) → natAbs a ≡ over a + under a
 abs-parts (pos a) = omega arith
 abs-parts (negsuc a) = omega arith
 
--- an instant that passes check 4 fits
-pub limit-fits : (a : ℤ) → natAbs a ≤ farthestInstant → SFits w64 a
-limit-fits a h = within-fits a (omega (arith, abs-parts a))
+-- ---- as the machine holds it
+
+-- what the machine reads back from a number's bits; it is the number (`mir.ValLaws.toZ-ofZ`)
+abbrev pub back : ℤ → ℤ
+back z = toZ w64 (ofZ w64 z)
 
 -- a test on what the machine reads back is the test on the numbers
 pub read-test : (p : ℤ → ℤ → Bool) (a b : ℤ) (v : Bool) → SFits w64 a → SFits w64 b → p (back a) (back b) ≡ v → p a b ≡ v
 read-test p a b v f g e = subst (λ (z : ℤ). p a z ≡ v) (toZ-ofZ w64 b g) (subst (λ (z : ℤ). p z (back b) ≡ v) (toZ-ofZ w64 a f) e)
+
+-- a magnitude over n, which code tests above zero and then below it
+pub above : (n : ℕ) (a : ℤ) → SFits w64 a → ltZ (pos n) (back a) ≡ true → true ≡ ltb n (natAbs a)
+above n a f h = go a (rw (toZ-ofZ w64 a f) at h)
+  where
+    go : (a : ℤ) → ltZ (pos n) a ≡ true → true ≡ ltb n (natAbs a)
+    go (pos a) h = sym h
+    go (negsuc a) h = absurd (false≢true h)
+
+pub below : (n : ℕ) (a : ℤ) → SFits w64 a → ltZ (pos (suc n)) (back a) ≡ false → ltZ (back a) (negsuc n) ≡ ltb (suc n) (natAbs a)
+below n a f h = rw (toZ-ofZ w64 a f) (go a (rw (toZ-ofZ w64 a f) at h))
+  where
+    go : (a : ℤ) → ltZ (pos (suc n)) a ≡ false → ltZ a (negsuc n) ≡ ltb (suc n) (natAbs a)
+    go (pos a) h = sym h
+    go (negsuc a) h = sym (leb·suc-suc (suc n) a)
