@@ -34,7 +34,7 @@ fn or_else(refusal: u8, number: u8, fails: bool) -> u8
 pub fn refuse_evaluation(instant: Nanoseconds) -> u8
     ensures { λ r. ⌜ r ≡ firstFailing (evaluationChecks (instant .0)) ⌝ }
 {
-    or_else(0, 4, beyond(instant.0))
+    or_else(0, 4, beyond(instant))
 }
 
 // `get_chebyshev_model` and `propagate_ecef`: checks 1, 4, 5, 6.
@@ -43,7 +43,7 @@ pub fn refuse_propagation(instants: &[i64], positions: &[f64], instant: Nanoseco
 {
     let refusal = or_else(0, 1, miscounted(instants, positions));
     let refusal = or_else(refusal, 4, any_beyond(instants));
-    let refusal = or_else(refusal, 4, beyond(instant.0));
+    let refusal = or_else(refusal, 4, beyond(instant));
     let refusal = or_else(refusal, 5, unrising(instants));
     or_else(refusal, 6, any_misplaced(positions))
 }
@@ -82,7 +82,7 @@ pub fn refuse_closest(
 {
     let refusal = or_else(0, 1, miscounted(instants, positions));
     let refusal = or_else(refusal, 4, any_beyond(instants));
-    let refusal = or_else(refusal, 4, beyond(instant.0));
+    let refusal = or_else(refusal, 4, beyond(instant));
     let refusal = or_else(refusal, 5, unrising(instants));
     let refusal = or_else(refusal, 6, any_misplaced(positions));
     or_else(
@@ -110,7 +110,7 @@ pub fn refuse_fit(
     let refusal = or_else(refusal, 2, unsampled(samples, frequencies));
     let refusal = or_else(refusal, 4, any_beyond(instants));
     let refusal = or_else(refusal, 4, any_beyond(samples));
-    let refusal = or_else(refusal, 4, beyond(measured.0));
+    let refusal = or_else(refusal, 4, beyond(measured));
     let refusal = or_else(refusal, 5, unrising(instants));
     let refusal = or_else(refusal, 6, any_misplaced(positions));
     let refusal = or_else(

@@ -7,6 +7,7 @@ use crate::limits::LATEST_INSTANT;
 use crate::limits::LEAST_COORDINATES;
 use crate::limits::MOST_COORDINATES;
 use crate::limits::MOST_SAMPLES;
+use units::Nanoseconds;
 
 // Check 1: too few or too many coordinates, or positions that are not three doubles each.
 pub(crate) fn miscounted(instants: &[i64], positions: &[f64]) -> bool
@@ -47,13 +48,13 @@ pub(crate) fn too_short(samples: &[i64], instant_area: &[i64], frequency_area: &
 }
 
 // Check 4: an instant past 4,000,000,000,000,000,000 ns either way.
-pub(crate) fn beyond(t: i64) -> bool
-    ensures { λ r. ⌜ r ≡ beyond t ⌝ }
+pub fn beyond(t: Nanoseconds) -> bool
+    ensures { λ r. ⌜ r ≡ beyond (t .0) ⌝ }
 {
-    if t > LATEST_INSTANT {
+    if t.0 > LATEST_INSTANT {
         return true;
     }
-    t < EARLIEST_INSTANT
+    t.0 < EARLIEST_INSTANT
 }
 
 // Check 4 of a slice.
@@ -61,7 +62,7 @@ pub(crate) fn any_beyond(instants: &[i64]) -> bool
     ensures { λ r. ⌜ r ≡ any beyond (now (instants .entry)) ⌝ }
 {
     for i in 0..instants.len() {
-        if beyond(instants[i]) {
+        if beyond(Nanoseconds(instants[i])) {
             return true;
         }
     }

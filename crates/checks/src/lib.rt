@@ -13,6 +13,7 @@ pub use entries::refuse_means;
 pub use entries::refuse_pass;
 pub use entries::refuse_propagation;
 pub use entries::refuse_samples;
+pub use instants::beyond;
 pub use limits::AXES;
 pub use limits::LATEST_INSTANT;
 pub use limits::MOST_SAMPLES;

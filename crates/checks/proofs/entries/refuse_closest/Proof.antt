@@ -1,7 +1,6 @@
 -- Check after check, each by what its function said of it; in turn they give the first that fails. Assumes nothing.
 use mathlib.Core.Path.{refl, _∙_}
 use borrow.Author.Needs.{needs}
-use Rattle.checks.proofs.Orders.{told}
 use Rattle.checks.proofs.First.{numbered, inTurn, in-turn, one-more}
 use Rattle.checks.proofs.entries.refuse_closest.Statement.{statement}
 use Rattle.checks.proofs.entries.refuse_closest.Tie as tie
@@ -49,12 +48,11 @@ returns c =
     let s5 = s6 .before .before in
     let s4 = s5 .before .before in
     let s3 = s4 .before .before in
-    let s2 = s3 .before .before .before in
+    let s2 = s3 .before .before in
     let s1 = s2 .before .before in
-    let at = s3 .before .before in
     let e1 = one-more 1 {r = 0} refl (s1 .or-else .ensures) (s1 .before .miscounted .ensures) in
     let e2 = one-more 4 e1 (s2 .or-else2 .ensures) (s2 .before .any-beyond .ensures) in
-    let e3 = one-more 4 e2 (s3 .or-else3 .ensures) (told (at .before .before .before .before .before .before .args .instant .0) (record { sfits = at .struct-told .given .0 .1 }) (s3 .before .beyond .ensures)) in
+    let e3 = one-more 4 e2 (s3 .or-else3 .ensures) (s3 .before .beyond .ensures) in
     let e4 = one-more 5 e3 (s4 .or-else4 .ensures) (s4 .before .unrising .ensures) in
     let e5 = one-more 6 e4 (s5 .or-else5 .ensures) (s5 .before .any-misplaced .ensures) in
     let e6 = one-more 6 e5 (s6 .or-else6 .ensures) (s6 .before .misplaced .ensures) in

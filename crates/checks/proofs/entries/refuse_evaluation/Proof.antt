@@ -1,7 +1,6 @@
 -- Check after check, each by what its function said of it; in turn they give the first that fails. Assumes nothing.
 use mathlib.Core.Path.{refl, _∙_}
 use borrow.Author.Needs.{needs}
-use Rattle.checks.proofs.Orders.{told}
 use Rattle.checks.proofs.First.{numbered, inTurn, in-turn, one-more}
 use Rattle.checks.proofs.entries.refuse_evaluation.Statement.{statement}
 use Rattle.checks.proofs.entries.refuse_evaluation.Tie as tie
@@ -16,8 +15,7 @@ returns : tie.Need-returns
 unfolding inTurn numbered
 returns c =
     let s1 = c in
-    let at = s1 .before .before in
-    let e1 = one-more 4 {r = 0} refl (s1 .or-else .ensures) (told (at .before .args .instant .0) (record { sfits = at .struct-told .given .0 .1 }) (s1 .before .beyond .ensures)) in
+    let e1 = one-more 4 {r = 0} refl (s1 .or-else .ensures) (s1 .before .beyond .ensures) in
     e1 ∙ in-turn _ tt
 
 pub refuse-evaluation-spec : {M : Type 1} → statement M

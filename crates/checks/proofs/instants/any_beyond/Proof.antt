@@ -22,11 +22,11 @@ abbrev μ-loop : tie.MeasureT-loop
 loop-holds : tie.Need-loop-holds Inv-loop μ-loop
 loop-holds c = (search needs, search needs, refl)
 
-mul-beyond : tie.Need-mul-beyond Inv-loop μ-loop
-mul-beyond c = search needs
+mul-t6 : tie.Need-mul-t6 Inv-loop μ-loop
+mul-t6 c = search needs
 
-shared-slice-copy-out-beyond : tie.Need-shared-slice-copy-out-beyond Inv-loop μ-loop
-shared-slice-copy-out-beyond c = search needs
+shared-slice-copy-out-t8 : tie.Need-shared-slice-copy-out-t8 Inv-loop μ-loop
+shared-slice-copy-out-t8 c = search needs
 
 beyond-requires : tie.Need-beyond-requires Inv-loop μ-loop
 beyond-requires c κs = search needs
@@ -36,7 +36,7 @@ returns c =
     let call = c .before .beyond in
     let at = c .before .before .before .before .loop in
     let l = c .before .before .before .before .before .args .instants .now in
-    let fits : SFits w64 (getD l (at .i) (pos 0)) = record { sfits = c .before .before .beyond-arg .given } in
+    let fits : SFits w64 (getD l (at .i) (pos 0)) = record { sfits = c .before .before .t8 .given } in
     any-found beyond (pos 0) l (at .i) (at .inv .2) (omega arith) (said _ fits (call .ensures) (c .if1 .taken))
 
 add-i : tie.Need-add-i Inv-loop μ-loop
@@ -50,7 +50,7 @@ loop-again c =
     let call = c .before .beyond in
     let at = c .before .before .before .before .loop in
     let l = c .before .before .before .before .before .args .instants .now in
-    let fits : SFits w64 (getD l (at .i) (pos 0)) = record { sfits = c .before .before .beyond-arg .given } in
+    let fits : SFits w64 (getD l (at .i) (pos 0)) = record { sfits = c .before .before .t8 .given } in
     (search needs, search needs, any-more beyond (pos 0) l (at .i) (at .inv .2) (omega arith) (said _ fits (call .ensures) (c .if1 .left)))
 
 returns-2 : tie.Need-returns-2 Inv-loop μ-loop
@@ -66,8 +66,8 @@ any-beyond-spec =
     Inv-loop
     μ-loop
     loop-holds
-    mul-beyond
-    shared-slice-copy-out-beyond
+    mul-t6
+    shared-slice-copy-out-t8
     beyond-requires
     returns
     add-i
