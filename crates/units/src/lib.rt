@@ -18,6 +18,10 @@ pub struct Hertz(pub f64);
 #[repr(C)]
 pub struct Nanoseconds(pub i64);
 
+// A count of leap seconds: how far GPS time is ahead of UTC.
+#[repr(C)]
+pub struct LeapSeconds(pub i16);
+
 // A satellite's ECEF position, in metres.
 pub struct Position {
     pub x: f64,

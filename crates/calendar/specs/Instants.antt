@@ -1,0 +1,38 @@
+-- The instant of a calendar: "The calendar of each epoch line becomes an instant."
+use Prim.Native.Nat.{ℕ, _+_, _*_}
+use mathlib.Core.Bool.{cond}
+use lib.IntN.{ℤ, pos, _-ℤ_, _*ℤ_}
+use Rattle.common.specs.Time.{second}
+use Rattle.checks.specs.Checks.{beyond}
+use Rattle.calendar.specs.declared.gregorian.Calendar.{Calendar}
+use Rattle.calendar.specs.declared.instants.Instant.{Instant}
+use Rattle.calendar.specs.declared.instants.Instant.the-variants.{At, Unreal, Beyond}
+use Rattle.calendar.specs.Gregorian.{hours, minutes, seconds, dayNumber, real}
+
+-- the seconds from 0001-01-01 00:00:00, without leap seconds
+abbrev pub secondNumber : Calendar → ℕ
+secondNumber c = seconds * (minutes * (hours * dayNumber c + c .hour) + c .minute) + c .second
+
+-- the nanoseconds from then
+abbrev pub nanosecondNumber : Calendar → ℕ
+nanosecondNumber c = second * secondNumber c + c .nanosecond
+
+-- 1970-01-01 00:00:00, where instants are counted from
+abbrev pub epoch : Calendar
+epoch = record { year = 1970; month = 1; day = 1; hour = 0; minute = 0; second = 0; nanosecond = 0 }
+
+-- nanoseconds since 1970-01-01 00:00:00, below zero before it
+abbrev pub instantOf : Calendar → ℤ
+instantOf c = pos (nanosecondNumber c) -ℤ pos (nanosecondNumber epoch)
+
+-- "lessened by a count of leap seconds"
+abbrev pub lessened : ℤ → ℤ → ℤ
+lessened t leaps = t -ℤ leaps *ℤ pos second
+
+-- an instant, if it is within check 4
+abbrev pub within : ℤ → Instant
+within t = cond (beyond t) Beyond (At (record { 0 = t }))
+
+-- the instant of a calendar less leap seconds, if it is real
+abbrev pub instantAnswer : Calendar → ℤ → Instant
+instantAnswer c leaps = cond (real c) (within (lessened (instantOf c) leaps)) Unreal
