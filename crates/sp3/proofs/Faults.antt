@@ -1,0 +1,37 @@
+-- The faults of all lines, found one line after the other: a line is wrong by itself, or it is a P line and no epoch line stood before it. Once one
+-- has stood, only the first can be. Assumes nothing.
+use mathlib.Core.Path.{_≡_, refl, sym, _∙_}
+use mathlib.Core.Bool.{Bool, true, false, _||_}
+use mathlib.Core.List.{List, [], _∷_}
+use Rattle.checks.specs.Checks.{any}
+use Rattle.sp3.specs.declared.line.Line.{Line}
+use Rattle.sp3.specs.declared.line.Line.the-variants.{Epoch, Place, Absent, Wrong, Passed}
+use Rattle.sp3.specs.Records.{isWrong, untimed, faulty}
+use Rattle.sp3.specs.Walks.{anyMisplaced}
+
+-- behind an epoch line
+timed : (L : List Line) → anyMisplaced true L ≡ any isWrong L
+unfolding anyMisplaced any
+timed [] = refl
+timed (Epoch t ∷ L) = timed L
+timed (Place p ∷ L) = timed L
+timed (Absent ∷ L) = timed L
+timed (Wrong ∷ L) = refl
+timed (Passed ∷ L) = timed L
+
+pub or-right : (b : Bool) → b || true ≡ true
+or-right true = refl
+or-right false = refl
+
+or-none : (b : Bool) → b || false ≡ b
+or-none true = refl
+or-none false = refl
+
+pub faults : (L : List Line) → anyMisplaced false L ≡ faulty L
+unfolding anyMisplaced any untimed
+faults [] = refl
+faults (Epoch t ∷ L) = timed L ∙ sym (or-none (any isWrong L))
+faults (Place p ∷ L) = sym (or-right (any isWrong L))
+faults (Absent ∷ L) = sym (or-right (any isWrong L))
+faults (Wrong ∷ L) = refl
+faults (Passed ∷ L) = faults L

@@ -1,0 +1,75 @@
+-- What the laws of the reader speak of: the lines joined again, which lines have a position to keep, by the columns alone, and the last epoch line.
+use Prim.Native.Nat.{ℕ, _<_}
+use mathlib.Core.Path.{_≡_}
+use mathlib.Core.Bool.{Bool, true, false, not, cond, _&&_, _||_}
+use mathlib.Core.List.{List, [], _∷_, _++_}
+use lib.Dec.{eqb}
+use lib.IntN.{ℤ}
+use lib.Ieee.{binary64, round}
+use Rattle.common.specs.Numbers.{nought}
+use Rattle.units.specs.declared.Position.{Position}
+use Rattle.decimal.specs.declared.reading.Number.{Number}
+use Rattle.decimal.specs.declared.reading.Field.{Field}
+use Rattle.decimal.specs.declared.reading.Field.the-variants.{Holds}
+use Rattle.decimal.specs.declared.reading.Field.the-variants.{Other as NoNumber}
+use Rattle.sp3.specs.declared.line.Line.{Line}
+use Rattle.sp3.specs.Lines.{lineFeed, text, begins}
+use Rattle.sp3.specs.Columns.{absent, metresOf, metreUnits, x, y, z}
+use Rattle.sp3.specs.Records.{isEpoch, instantAfter}
+
+-- lines joined again, a line feed behind each
+unfoldable pub joined : List (List ℕ) → List ℕ
+joined [] = []
+joined (l ∷ ls) = l ++ (lineFeed ∷ joined ls)
+
+-- some bytes behind b, with a line feed at their end if there is none
+unfoldable pub closedAfter : ℕ → List ℕ → List ℕ
+closedAfter b [] = cond (eqb b lineFeed) [] (lineFeed ∷ [])
+closedAfter b (c ∷ bs) = c ∷ closedAfter c bs
+
+-- some bytes so closed; none stay none
+abbrev pub closed : List ℕ → List ℕ
+closed [] = []
+closed (b ∷ bs) = b ∷ closedAfter b bs
+
+-- whether a line has no line feed
+unfoldable pub feedless : List ℕ → Bool
+feedless [] = true
+feedless (b ∷ l) = not (eqb b lineFeed) && feedless l
+
+-- whether no line has one
+unfoldable pub allFeedless : List (List ℕ) → Bool
+allFeedless [] = true
+allFeedless (l ∷ ls) = feedless l && allFeedless ls
+
+-- the position of three coordinates that are numbers and not all zero
+abbrev pub placesBy : Field → Field → Field → List Position
+placesBy NoNumber fy fz = []
+placesBy (Holds nx) NoNumber fz = []
+placesBy (Holds nx) (Holds ny) NoNumber = []
+placesBy (Holds nx) (Holds ny) (Holds nz) = cond (absent nx ny nz) [] (record { x = metresOf nx; y = metresOf ny; z = metresOf nz } ∷ [])
+
+-- that of a P line of the satellite
+abbrev pub placesIn : List ℕ → List ℕ → List Position
+placesIn satellite l = cond (begins (text "P" ++ satellite) l) (placesBy (x l) (y l) (z l)) []
+
+-- those of all lines, in the file's order
+unfoldable pub places : List ℕ → List (List ℕ) → List Position
+places satellite [] = []
+places satellite (l ∷ ls) = placesIn satellite l ++ places satellite ls
+
+-- the instant of the last epoch line, or t where there is none
+unfoldable pub lastInstant : ℤ → List Line → ℤ
+lastInstant t [] = t
+lastInstant t (l ∷ ls) = lastInstant (instantAfter l t) ls
+
+-- whether there is an epoch line
+unfoldable pub hasEpoch : List Line → Bool
+hasEpoch [] = false
+hasEpoch (l ∷ ls) = isEpoch l || hasEpoch ls
+
+-- a coordinate's number, in millionths of a kilometre: it is below 10 ^ 13, and it is kept as +0 or as the double nearest a thousandth of it in metres
+pub record Valued (n : Number) : Type 0 where
+  pub small : n .digits < 10000000000000
+  pub zero : n .digits ≡ 0 → metresOf n ≡ nought
+  pub nearest : (n .digits ≡ 0 → ⊥) → metresOf n ≡ round binary64 (n .negative) (n .digits) metreUnits

@@ -1,0 +1,197 @@
+// What one line behind the header says.
+use crate::header::TimeSystem;
+use crate::text::begins;
+use calendar::Calendar;
+use calendar::Instant;
+use decimal::Field;
+use decimal::Number;
+use units::Nanoseconds;
+use units::Position;
+ghost use mathlib.Core.Path.{_≡_};
+ghost use Prim.Native.Nat.{_≤_, _<_};
+ghost use Rattle.sp3.specs.Columns.{whole, pointed, epochAt, timeless, epochUnder, epochIn, metresOf, absent, placeOf, placeIn, lineOf};
+
+// An epoch by its instant, a position of the satellite, that the position is absent, something that is not by the description, or nothing that is
+// looked at.
+pub(crate) enum Line {
+    Epoch(Nanoseconds),
+    Place(Position),
+    Absent,
+    Wrong,
+    Passed,
+}
+
+// Hundred-millionths of a second in a second.
+const SECOND_UNITS: u64 = 100_000_000;
+
+// Nanoseconds in a hundred-millionth of a second.
+const UNIT_NANOSECONDS: u64 = 10;
+
+// Millionths of a kilometre in a metre.
+const METRE_UNITS: f64 = 1000.0;
+
+// The whole number in the columns from first to last.
+fn whole_in(line: &[u8], first: usize, last: usize) -> Field
+    requires { ⌜ (1 ≤ first) × (first ≤ last) ⌝ }
+    ensures { λ r. ⌜ r ≡ whole first last (now (line .entry)) ⌝ }
+{
+    if line.len() < last {
+        return Field::Other;
+    }
+    let from = first - 1;
+    decimal::whole_of(&line[from..last], false)
+}
+
+// The number in the columns from first to last, with its point in a column of its own.
+fn pointed_in(line: &[u8], first: usize, point: usize, last: usize, signed: bool) -> Field
+    requires { ⌜ (1 ≤ first) × (first ≤ point) × (point ≤ last) ⌝ }
+    ensures { λ r. ⌜ r ≡ pointed signed first point last (now (line .entry)) ⌝ }
+{
+    if line.len() < last {
+        return Field::Other;
+    }
+    let from = first - 1;
+    decimal::decimal_of(&line[from..last], point - first, signed)
+}
+
+// The epoch of an instant.
+fn epoch_at(instant: Instant) -> Line
+    ensures { λ r. ⌜ r ≡ epochAt instant ⌝ }
+{
+    match instant {
+        Instant::At(t) => Line::Epoch(t),
+        Instant::Unreal => Line::Wrong,
+        Instant::Beyond => Line::Wrong,
+    }
+}
+
+// The epoch of a date and time of which no instant is worked out.
+fn timeless(c: Calendar) -> Line
+    ensures { λ r. ⌜ r ≡ timeless c ⌝ }
+{
+    if calendar::is_real(c) {
+        return Line::Epoch(Nanoseconds(0));
+    }
+    Line::Wrong
+}
+
+// The epoch of a date and time under a time system.
+fn epoch_under(system: TimeSystem, c: Calendar) -> Line
+    ensures { λ r. ⌜ r ≡ epochUnder system c ⌝ }
+{
+    match system {
+        TimeSystem::Less(leap_seconds) => epoch_at(calendar::instant_of(c, leap_seconds)),
+        TimeSystem::Other => timeless(c),
+        TimeSystem::Missing => timeless(c),
+    }
+}
+
+// What an epoch line says.
+fn epoch_in(line: &[u8], system: TimeSystem) -> Line
+    ensures { λ r. ⌜ r ≡ epochIn system (now (line .entry)) ⌝ }
+{
+    let Field::Holds(year) = whole_in(line, 4, 7) else {
+        return Line::Wrong;
+    };
+    let Field::Holds(month) = whole_in(line, 9, 10) else {
+        return Line::Wrong;
+    };
+    let Field::Holds(day) = whole_in(line, 12, 13) else {
+        return Line::Wrong;
+    };
+    let Field::Holds(hour) = whole_in(line, 15, 16) else {
+        return Line::Wrong;
+    };
+    let Field::Holds(minute) = whole_in(line, 18, 19) else {
+        return Line::Wrong;
+    };
+    let Field::Holds(second) = pointed_in(line, 21, 23, 31, false) else {
+        return Line::Wrong;
+    };
+    let c = Calendar {
+        year: year.digits as u16,
+        month: month.digits as u8,
+        day: day.digits as u8,
+        hour: hour.digits as u8,
+        minute: minute.digits as u8,
+        second: (second.digits / SECOND_UNITS) as u8,
+        nanosecond: (second.digits % SECOND_UNITS * UNIT_NANOSECONDS) as u32,
+    };
+    epoch_under(system, c)
+}
+
+// A coordinate in metres, of its millionths of a kilometre: so few are a double themselves, and one division rounds.
+fn metres_of(n: Number) -> f64
+    requires { ⌜ n .digits < 10000000000000 ⌝ }
+    ensures { λ r. ⌜ r ≡ metresOf n ⌝ }
+{
+    if n.digits == 0 {
+        return 0.0;
+    }
+    let x = float::nearest(n.digits as i64) / METRE_UNITS;
+    if n.negative { -x } else { x }
+}
+
+// Whether three coordinates are zero.
+fn is_absent(x: Number, y: Number, z: Number) -> bool
+    ensures { λ r. ⌜ r ≡ absent x y z ⌝ }
+{
+    if x.digits != 0 {
+        return false;
+    }
+    if y.digits != 0 {
+        return false;
+    }
+    z.digits == 0
+}
+
+// A position by its coordinates.
+fn place_of(x: Number, y: Number, z: Number) -> Line
+    requires { ⌜ (x .digits < 10000000000000) × (y .digits < 10000000000000) × (z .digits < 10000000000000) ⌝ }
+    ensures { λ r. ⌜ r ≡ placeOf x y z ⌝ }
+{
+    if is_absent(x, y, z) {
+        return Line::Absent;
+    }
+    Line::Place(Position {
+        x: metres_of(x),
+        y: metres_of(y),
+        z: metres_of(z),
+    })
+}
+
+// What a P line of the satellite says.
+fn place_in(line: &[u8]) -> Line
+    ensures { λ r. ⌜ r ≡ placeIn (now (line .entry)) ⌝ }
+{
+    let Field::Holds(x) = pointed_in(line, 5, 12, 18, true) else {
+        return Line::Wrong;
+    };
+    let Field::Holds(y) = pointed_in(line, 19, 26, 32, true) else {
+        return Line::Wrong;
+    };
+    let Field::Holds(z) = pointed_in(line, 33, 40, 46, true) else {
+        return Line::Wrong;
+    };
+    place_of(x, y, z)
+}
+
+// What a line says.
+pub(crate) fn line_of(line: &[u8], system: TimeSystem, satellite: &[u8]) -> Line
+    ensures { λ r. ⌜ r ≡ lineOf system (now (satellite .entry)) (now (line .entry)) ⌝ }
+{
+    if line.len() == 0 {
+        return Line::Passed;
+    }
+    let first = line[0];
+    if first == b'*' {
+        return epoch_in(line, system);
+    }
+    if first != b'P' {
+        return Line::Passed;
+    }
+    if begins(&line[1..], satellite) {
+        return place_in(line);
+    }
+    Line::Passed
+}
