@@ -1,5 +1,5 @@
 -- 0 says answered: no entry's outcome is a refusal with the number 0, so a C caller reads an answer exactly where there is one. A check that fails gives
--- its own number, and 8, 9 and 10 come from their own cases; none of them is 0. Assumes nothing.
+-- its own number, and 8, 9 and 10 come from their own cases; none of them is 0, nor 11, 12 or 13. Assumes nothing.
 use mathlib.Core.Path.{_≡_, refl}
 use mathlib.Core.Bool.{Bool, true, false, cond}
 use mathlib.Core.List.{List}
@@ -10,6 +10,8 @@ use lib.ListN.{length, getD}
 use lib.Ieee.{Float, lt}
 use Rattle.common.specs.Numbers.{nought}
 use Rattle.units.specs.declared.Observer.{Observer}
+use Rattle.units.specs.declared.LeapSeconds.{LeapSeconds}
+use Rattle.sp3.specs.Entries.{sp3Refusal, recordsOf, readSp3}
 use Rattle.chebyshev.specs.Inverse.{Matrix, inverted}
 use Rattle.chebyshev.proofs.Columns.{inverted-told}
 use Rattle.orbit.proofs.Models.{inversion-told}
@@ -99,3 +101,6 @@ pub pass-told : (i : Inputs) (ts : List ℤ) (fs : List Float) (is : List ℤ) (
 pass-told i ts fs is hs =
     let M = means (recording ts fs) in
     after-checks (passRefusal i ts fs is hs) (passOutcome i (recording ts fs)) (by-fit (trial (residualOf i) M) (basisOf M) (centreOf i (measuredOf M .instant .0)))
+
+pub sp3-told : (bytes satellite : List ℕ) (leaps : LeapSeconds) (is : List ℤ) (ps : List Float) → Told (readSp3 bytes satellite leaps is ps)
+sp3-told bytes satellite leaps is ps = by-checks (sp3Refusal bytes satellite leaps is ps) (length (recordsOf bytes satellite leaps))

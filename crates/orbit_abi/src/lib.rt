@@ -4,3 +4,4 @@ mod fit_entries;
 mod float_entries;
 mod orbit_entries;
 mod samples_entries;
+mod sp3_entries;
