@@ -13,7 +13,8 @@
  * Each unit is a type of its own with one field, so that kilometres cannot stand where metres are meant: orbit_metres m = {1500.0};
  * The library takes and gives these structs by value. An answer of several numbers is a struct of them, so that each keeps its unit.
  *
- * Refusals. The checks are made in this order, and the first that fails gives the number.
+ * Refusals. The checks are made in this order, and the first that fails gives the number. Refusals 11 to 13 are of orbit_read_sp3
+ * alone, which makes none of the others.
  *
  *    1  What is wrong: fewer than 10 or more than 4,096 coordinates, or not three position numbers for each instant.
  *       What to do: lend a part of the table with 10 to 4,096 coordinates, and all three numbers of each.
@@ -35,6 +36,12 @@
  *       What to do: take a recording that holds the closest approach, with at least three samples some milliseconds apart.
  *   10  What is wrong: no shift of the clock fits the recording.
  *       What to do: look whether recording, table, observer and centre frequency belong to the same pass.
+ *   11  What is wrong: a header line, an epoch or a position of the satellite is not by SP3-c, or a date is not real or beyond the limit of 4.
+ *       What to do: fetch the orbit file again, whole and unedited; if it is refused again, ask its sender for SP3-c.
+ *   12  What is wrong: the orbit file's time system is neither UTC nor GPS.
+ *       What to do: take a file in UTC or GPS time; its line 13 says which, in columns 10 to 12.
+ *   13  What is wrong: the orbit file has no position of the satellite, or a lent area is too short for them.
+ *       What to do: look how the file names the satellite, such as G05; lend room for an instant and three numbers for each of its positions.
  */
 #ifndef ORBIT_H
 #define ORBIT_H
@@ -46,11 +53,13 @@
 extern "C" {
 #endif
 
-/* The units: a length, a time, a frequency, and a count of nanoseconds (of an instant: since 1970-01-01, without leap seconds). */
+/* The units: a length, a time, a frequency, a count of nanoseconds (of an instant: since 1970-01-01, without leap seconds), and a count of
+ * leap seconds, by which GPS time is ahead of UTC: 18 since 2017. */
 typedef struct { double metres; } orbit_metres;
 typedef struct { double seconds; } orbit_seconds;
 typedef struct { double hertz; } orbit_hertz;
 typedef struct { int64_t nanoseconds; } orbit_nanoseconds;
+typedef struct { int16_t leap_seconds; } orbit_leap_seconds;
 
 /* A velocity, in metres for each second. */
 typedef struct { double metres_per_second; } orbit_metres_per_second;
@@ -139,6 +148,13 @@ uint8_t orbit_pass(const int64_t *instants, size_t instant_count, const double *
                    orbit_metres ox, orbit_metres oy, orbit_metres oz, orbit_hertz f0,
                    int64_t *mean_instants, size_t mean_instant_count, double *mean_frequencies, size_t mean_frequency_count,
                    orbit_report *report, uint64_t *count);
+
+/* The positions of one satellite in the bytes of an orbit file in SP3-c, in the file's order, as instants and x, y, z in metres at the
+ * front of the two areas; the rest of each stays. The satellite is its three bytes in the file, such as {'G', '0', '5'}. A file in UTC
+ * gives its own instants; one in GPS time gives them less the leap seconds. A position of three zeros is absent and left out. The number
+ * of positions goes into count. Refuses by 11, 12, 13. */
+uint8_t orbit_read_sp3(const uint8_t *bytes, size_t byte_count, const uint8_t satellite[3], orbit_leap_seconds leap_seconds,
+                       int64_t *instants, size_t instant_count, double *positions, size_t position_count, uint64_t *count);
 
 #ifdef __cplusplus
 }

@@ -28,6 +28,11 @@ pub struct Hertz(pub f64);
 #[derive(Clone, Copy, Debug, Default, PartialEq, Eq, PartialOrd, Ord)]
 pub struct Nanoseconds(pub i64);
 
+/// A count of leap seconds, by which GPS time is ahead of UTC: 18 since 2017.
+#[repr(C)]
+#[derive(Clone, Copy, Debug, Default, PartialEq, Eq, PartialOrd, Ord)]
+pub struct LeapSeconds(pub i16);
+
 /// A velocity.
 #[repr(C)]
 #[derive(Clone, Copy, Debug, Default, PartialEq, PartialOrd)]
@@ -218,6 +223,17 @@ unsafe extern "C" {
         mean_frequencies: *mut Hertz,
         mean_frequency_count: usize,
         report: &mut Fitted,
+        count: &mut u64,
+    ) -> u8;
+    fn orbit_read_sp3(
+        bytes: *const u8,
+        byte_count: usize,
+        satellite: &[u8; 3],
+        leap_seconds: LeapSeconds,
+        instants: *mut Nanoseconds,
+        instant_count: usize,
+        positions: *mut Metres,
+        position_count: usize,
         count: &mut u64,
     ) -> u8;
 }
@@ -452,4 +468,34 @@ pub fn pass(
         )
     };
     Refusal::or(number, Report::of(fitted, count))
+}
+
+/// The positions of one satellite in the bytes of an orbit file in SP3-c, in the file's order, at the front of the areas; their
+/// number. The rest of each area stays. The satellite is its three bytes in the file, such as `*b"G05"`. A file in UTC gives its
+/// own instants; one in GPS time gives them less the leap seconds. A position of three zeros is absent and left out.
+/// Refuses by 11, 12, 13.
+pub fn read_sp3(
+    bytes: &[u8],
+    satellite: [u8; 3],
+    leap_seconds: LeapSeconds,
+    instants: &mut [Nanoseconds],
+    positions: &mut [Position],
+) -> Result<usize, Refusal> {
+    let positions = positions.as_flattened_mut();
+    let mut count = 0;
+    // SAFETY: each pointer is to as many numbers as the count after it says; nothing overlaps the lent areas.
+    let number = unsafe {
+        orbit_read_sp3(
+            bytes.as_ptr(),
+            bytes.len(),
+            &satellite,
+            leap_seconds,
+            instants.as_mut_ptr(),
+            instants.len(),
+            positions.as_mut_ptr(),
+            positions.len(),
+            &mut count,
+        )
+    };
+    Refusal::or(number, count as usize)
 }

@@ -15,6 +15,9 @@ pub enum Refusal {
     PivotTooSmall = 8,
     NoApproach = 9,
     NoShiftFits = 10,
+    OrbitFileUnreadable = 11,
+    TimeSystemUnknown = 12,
+    NoPositionOrNoRoom = 13,
 }
 
 use Refusal::*;
@@ -73,6 +76,21 @@ const TEXTS: &[Text] = &[
         NoShiftFits,
         "no shift of the clock fits the recording.",
         "look whether recording, table, observer and centre frequency belong to the same pass.",
+    ),
+    (
+        OrbitFileUnreadable,
+        "a header line, an epoch or a position of the satellite is not by SP3-c, or a date is not real or beyond the limit of 4.",
+        "fetch the orbit file again, whole and unedited; if it is refused again, ask its sender for SP3-c.",
+    ),
+    (
+        TimeSystemUnknown,
+        "the orbit file's time system is neither UTC nor GPS.",
+        "take a file in UTC or GPS time; its line 13 says which, in columns 10 to 12.",
+    ),
+    (
+        NoPositionOrNoRoom,
+        "the orbit file has no position of the satellite, or a lent area is too short for them.",
+        "look how the file names the satellite, such as G05; lend room for an instant and three numbers for each of its positions.",
     ),
 ];
 
