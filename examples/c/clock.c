@@ -1,4 +1,6 @@
-/* Runs one pass of a satellite from the sample data of examples/data and prints what the library answers; then shows a refusal.
+/* Runs one pass of a satellite from an orbit file and the sample data of examples/data and prints what the library answers; then shows
+ * two refusals.
+ * usage: clock FILE, an orbit file in SP3-c
  * Exit status 0: all was as expected. */
 #include <inttypes.h>
 #include <stdbool.h>
@@ -8,10 +10,11 @@
 #include "orbit.h"
 #include "refusals.h"
 
+/* The satellite of the pass, by its three bytes in the orbit file, and how far the file's GPS time is ahead of UTC. */
+static const uint8_t satellite[3] = {'L', '0', '1'};
+static const orbit_leap_seconds leap_seconds = {18};
+
 /* The sample data; each file says what its rows hold. */
-static const struct { int64_t instant; double x, y, z; } table[] = {
-#include "table.inc"
-};
 static const struct { int64_t instant; double frequency; } recording[] = {
 #include "recording.inc"
 };
@@ -23,20 +26,32 @@ static const struct { double clock_offset, frequency_offset; } known[] = {
 };
 
 enum {
-    COORDINATES = sizeof table / sizeof table[0],
+    LONGEST_FILE = 1 << 20, /* bytes */
+    LONGEST_TABLE = 4096,   /* coordinates: check 1 lets no more pass */
     SAMPLES = sizeof recording / sizeof recording[0],
     MEANS_SHOWN = 3
 };
 
-/* What the library reads. */
+/* An orbit file. */
 typedef struct {
-    int64_t instants[COORDINATES];     /* ns since 1970-01-01 */
-    double positions[3 * COORDINATES]; /* m */
-    int64_t samples[SAMPLES];          /* ns since 1970-01-01, by the recorder's clock */
-    double frequencies[SAMPLES];       /* Hz */
-} pass_input;
+    uint8_t bytes[LONGEST_FILE];
+    size_t count;
+} sp3_file;
 
-/* What the library writes. The areas for the means are as long as the recording, since there may be as many means. */
+/* The table, as the library reads it from an orbit file and takes it again. */
+typedef struct {
+    int64_t instants[LONGEST_TABLE];     /* ns since 1970-01-01 */
+    double positions[3 * LONGEST_TABLE]; /* m */
+    uint64_t count;                      /* of coordinates */
+} pass_table;
+
+/* The recording, as the library takes it. */
+typedef struct {
+    int64_t instants[SAMPLES];   /* ns since 1970-01-01, by the recorder's clock */
+    double frequencies[SAMPLES]; /* Hz */
+} pass_recording;
+
+/* What the library answers to both. The areas for the means are as long as the recording, since there may be as many means. */
 typedef struct {
     int64_t mean_instants[SAMPLES];   /* ns since 1970-01-01, by the recorder's clock */
     double mean_frequencies[SAMPLES]; /* Hz */
@@ -49,27 +64,41 @@ static orbit_hertz centre_frequency(void)
     return (orbit_hertz){station[0].centre_frequency};
 }
 
-/* Copies the sample data into slices, as the library takes them. */
-static void load(pass_input *input)
+/* The whole of a file; false where it cannot be read or is too long. */
+static bool load_file(const char *path, sp3_file *file)
 {
-    for (size_t i = 0; i < COORDINATES; i++) {
-        input->instants[i] = table[i].instant;
-        input->positions[3 * i] = table[i].x;
-        input->positions[3 * i + 1] = table[i].y;
-        input->positions[3 * i + 2] = table[i].z;
+    FILE *stream = fopen(path, "rb");
+    if (stream == NULL) {
+        return false;
     }
+    file->count = fread(file->bytes, 1, LONGEST_FILE, stream);
+    const bool whole = feof(stream) && !ferror(stream);
+    fclose(stream);
+    return whole;
+}
+
+/* Copies the recording into slices, as the library takes them. */
+static void load_recording(pass_recording *samples)
+{
     for (size_t i = 0; i < SAMPLES; i++) {
-        input->samples[i] = recording[i].instant;
-        input->frequencies[i] = recording[i].frequency;
+        samples->instants[i] = recording[i].instant;
+        samples->frequencies[i] = recording[i].frequency;
     }
 }
 
+/* The table of the satellite in an orbit file: 0, or the number of the refusal. */
+static uint8_t read_table(const sp3_file *file, pass_table *table)
+{
+    return orbit_read_sp3(file->bytes, file->count, satellite, leap_seconds,
+                          table->instants, LONGEST_TABLE, table->positions, 3 * LONGEST_TABLE, &table->count);
+}
+
 /* The whole pass: 0, or the number of the refusal. */
-static uint8_t run_pass(const pass_input *input, pass_answer *answer)
+static uint8_t run_pass(const pass_table *table, const pass_recording *samples, pass_answer *answer)
 {
     const orbit_metres ox = {station[0].x}, oy = {station[0].y}, oz = {station[0].z};
-    return orbit_pass(input->instants, COORDINATES, input->positions, 3 * COORDINATES,
-                      input->samples, SAMPLES, input->frequencies, SAMPLES,
+    return orbit_pass(table->instants, table->count, table->positions, 3 * table->count,
+                      samples->instants, SAMPLES, samples->frequencies, SAMPLES,
                       ox, oy, oz, centre_frequency(),
                       answer->mean_instants, SAMPLES, answer->mean_frequencies, SAMPLES,
                       &answer->report, &answer->count);
@@ -154,11 +183,22 @@ static bool print_known(const pass_answer *answer)
     return found;
 }
 
-/* The pass of the sample data. */
-static bool show_pass(const pass_input *input, pass_answer *answer)
+/* The table from the orbit file of this name. */
+static bool show_table(const char *name, const sp3_file *file, pass_table *table)
 {
-    printf("A pass: %d coordinates, %d samples, centre frequency %.0f Hz\n", COORDINATES, SAMPLES, centre_frequency().hertz);
-    uint8_t refusal = run_pass(input, answer);
+    const uint8_t refusal = read_table(file, table);
+    if (refusal != 0) {
+        print_refusal(refusal);
+        return false;
+    }
+    printf("table             %" PRIu64 " coordinates of %.3s from %s\n", table->count, (const char *)satellite, name);
+    return true;
+}
+
+/* The pass of the sample data. */
+static bool show_pass(const pass_table *table, const pass_recording *samples, pass_answer *answer)
+{
+    uint8_t refusal = run_pass(table, samples, answer);
     if (refusal == 0) {
         print_report(answer);
         print_means(answer);
@@ -171,29 +211,58 @@ static bool show_pass(const pass_input *input, pass_answer *answer)
     return print_known(answer);
 }
 
+/* A call that should be refused: whether it was, by that number, and wrote nothing. */
+static bool print_refused(uint8_t refusal, uint8_t expected, bool untouched)
+{
+    print_refusal(refusal);
+    printf("lent areas        %s\n", untouched ? "untouched" : "WRITTEN");
+    return refusal == expected && untouched;
+}
+
 /* The same pass with the table in kilometres is refused, and nothing is written. */
-static bool show_refusal(pass_input *input, pass_answer *answer)
+static bool show_kilometres(pass_table *table, const pass_recording *samples, pass_answer *answer)
 {
     static pass_answer before;
-    for (size_t i = 0; i < 3 * COORDINATES; i++) {
-        input->positions[i] /= 1000.0;
+    for (size_t i = 0; i < 3 * table->count; i++) {
+        table->positions[i] /= 1000.0;
     }
     memset(answer, 0x5A, sizeof *answer); /* a mark in every byte that is lent */
     before = *answer;
     printf("\nThe same pass, the table in kilometres\n");
-    const uint8_t refusal = run_pass(input, answer);
-    const bool untouched = memcmp(&before, answer, sizeof before) == 0;
-    print_refusal(refusal);
-    printf("lent areas        %s\n", untouched ? "untouched" : "WRITTEN");
-    return refusal == 6 && untouched;
+    const uint8_t refusal = run_pass(table, samples, answer);
+    return print_refused(refusal, 6, memcmp(&before, answer, sizeof before) == 0);
 }
 
-int main(void)
+/* The same file with commas for points is refused, and nothing is written. */
+static bool show_commas(sp3_file *file, pass_table *table)
 {
-    static pass_input input;
+    static pass_table before;
+    for (size_t i = 0; i < file->count; i++) {
+        if (file->bytes[i] == '.') {
+            file->bytes[i] = ',';
+        }
+    }
+    memset(table, 0x5A, sizeof *table); /* a mark in every byte that is lent */
+    before = *table;
+    printf("\nThe same orbit file, commas for points\n");
+    const uint8_t refusal = read_table(file, table);
+    return print_refused(refusal, 11, memcmp(&before, table, sizeof before) == 0);
+}
+
+int main(int argc, char **argv)
+{
+    static sp3_file file;
+    static pass_table table;
+    static pass_recording samples;
     static pass_answer answer;
-    load(&input);
-    const bool answered = show_pass(&input, &answer);
-    const bool refused = show_refusal(&input, &answer);
-    return answered && refused ? 0 : 1;
+    if (argc != 2 || !load_file(argv[1], &file)) {
+        fprintf(stderr, "usage: clock FILE, an orbit file of less than %d bytes\n", LONGEST_FILE);
+        return 1;
+    }
+    load_recording(&samples);
+    printf("A pass: %d samples, centre frequency %.0f Hz\n", SAMPLES, centre_frequency().hertz);
+    const bool answered = show_table(argv[1], &file, &table) && show_pass(&table, &samples, &answer);
+    const bool kilometres_refused = show_kilometres(&table, &samples, &answer);
+    const bool commas_refused = show_commas(&file, &table);
+    return answered && kilometres_refused && commas_refused ? 0 : 1;
 }

@@ -3,11 +3,12 @@
 
 usage: examples/data/make.py [FOLDER]
 
-A circular orbit over a turning earth gives the table. The same orbit, and not the table, gives the frequencies that an
-observer would hear. The recording's clock is then put ahead, a frequency offset and noise are added, and two pairs
-of samples change places. The random numbers are the same at every run.
+A circular orbit over a turning earth gives the table, an orbit file in SP3-c. The same orbit, and not the table, gives the
+frequencies that an observer would hear. The recording's clock is then put ahead, a frequency offset and noise are added,
+and two pairs of samples change places. The random numbers are the same at every run.
 """
 
+import datetime
 import math
 import os
 import random
@@ -23,6 +24,12 @@ TILT = math.radians(53.0)  # of the orbit against the equator
 GRAVITY = 3.986004418e14  # m3/s2
 TURN = 7.2921159e-5  # of the earth, rad/s
 LIGHT = 299_792_458.0  # m/s
+
+# The orbit file: the satellite of the pass, and another, so that the choice of one matters.
+SATELLITE, FOLLOWER = "L01", "L02"
+FOLLOWS = 90  # s behind the satellite, on the same track over the earth
+LEAP_SECONDS = 18  # s that the file's GPS time is ahead of UTC
+NO_CLOCK = 999_999.999999  # in the clock's columns: none is given
 
 # The table and the recording.
 MIDDLE = 1_750_000_740  # s since 1970: the closest approach is some seconds from here
@@ -70,14 +77,56 @@ def heard(seconds):
     return CENTRE * (1.0 - rate / LIGHT)
 
 
-def table():
-    """Rows of an instant in nanoseconds and x, y, z in whole metres."""
-    rows = []
-    for k in range(ROWS):
-        seconds = (k - ROWS // 2) * ROW_GAP
-        x, y, z = (round(component) for component in position(seconds))
-        rows.append(f"{{{(MIDDLE + seconds) * 10**9}, {x}, {y}, {z}}},")
-    return rows
+def epoch(row):
+    """The time of a row of the table, in GPS time."""
+    seconds = MIDDLE + (row - ROWS // 2) * ROW_GAP + LEAP_SECONDS
+    return datetime.datetime(1970, 1, 1) + datetime.timedelta(seconds=seconds)
+
+
+def calendar(time):
+    """A time in the columns 4 to 31 of a line."""
+    return f"{time.year:4} {time.month:2} {time.day:2} {time.hour:2} {time.minute:2} {time.second:11.8f}"
+
+
+def first_lines():
+    """The lines 1 and 2: the first epoch as calendar, as week and second of GPS, and as modified Julian day."""
+    first = epoch(0)
+    days = (first - datetime.datetime(1980, 1, 6)).days  # since GPS time began, on the modified Julian day 44244
+    second = first.hour * 3600 + first.minute * 60 + first.second
+    return [
+        f"#cP{calendar(first)} {ROWS:7} ORBIT WGS84 EXT NONE",
+        f"## {days // 7:4} {days % 7 * 86400 + second:15.8f} {ROW_GAP:14.8f} {44244 + days:5} {second / 86400:15.13f}",
+    ]
+
+
+def header():
+    """The 22 header lines, each of 60 columns. A zero stands where a satellite or an accuracy is not given."""
+    none = "  0"
+    comments = ["Synthetic: no such satellite flies.", "Written by examples/data/make.py.",
+                f"{SATELLITE} is the satellite of recording.inc.", f"{FOLLOWER} follows it, {FOLLOWS} s behind."]
+    lines = first_lines()
+    lines += [f"+    2   {SATELLITE}{FOLLOWER}{15 * none}"] + 4 * [f"+        {17 * none}"]
+    lines += 5 * [f"++       {17 * none}"]
+    lines += [f"%c {kinds} ccc cccc cccc cccc cccc ccccc ccccc ccccc ccccc" for kinds in ("L  cc GPS", "cc cc ccc")]
+    lines += 2 * [f"%f {0:10.7f} {0:12.9f} {0:14.11f} {0:18.15f}"]
+    lines += 2 * [f"%i {0:4} {0:4} {0:4} {0:4} {0:6} {0:6} {0:6} {0:6} {0:9}"]
+    return lines + [f"/* {comment:57}" for comment in comments]
+
+
+def position_line(name, seconds):
+    """A P line of 80 columns: whole metres, written as kilometres, and no clock. The P at its end says: predicted."""
+    numbers = [round(component) / 1000 for component in position(seconds)] + [NO_CLOCK]
+    return f"P{name}" + "".join(f"{number:14.6f}" for number in numbers) + "P".rjust(20)
+
+
+def orbit_file():
+    """The lines of the orbit file."""
+    lines = header()
+    for row in range(ROWS):
+        seconds = (row - ROWS // 2) * ROW_GAP
+        lines += [f"*  {calendar(epoch(row))}"]
+        lines += [position_line(SATELLITE, seconds), position_line(FOLLOWER, seconds - FOLLOWS)]
+    return lines + ["EOF"]
 
 
 def closest():
@@ -101,10 +150,15 @@ def recording():
     return rows
 
 
-def write(folder, name, says, rows):
-    """One file: what a row holds, then the rows."""
-    with open(os.path.join(folder, name), "w", encoding="ascii") as file:
-        file.write(f"/* {says} */\n" + "\n".join(rows) + "\n")
+def write(folder, name, lines):
+    """One file of these lines."""
+    with open(os.path.join(folder, name), "w", encoding="ascii", newline="\n") as file:
+        file.write("\n".join(lines) + "\n")
+
+
+def write_rows(folder, name, says, rows):
+    """One file for C: what a row holds, then the rows."""
+    write(folder, name, [f"/* {says} */"] + rows)
 
 
 def main():
@@ -112,14 +166,13 @@ def main():
     x, y, z = observer()
     station = f"{{{x}, {y}, {z}, {CENTRE}}},"
     known = f"{{{CLOCK_OFFSET_MS / 1000}, {FREQUENCY_OFFSET}}},"
-    write(folder, "table.inc",
-          "Synthetic. Instant in ns since 1970-01-01; x, y, z of the satellite in m, earth-fixed.", table())
-    write(folder, "recording.inc",
-          "Synthetic. Instant in ns since 1970-01-01, by the recorder's clock; frequency in Hz.", recording())
-    write(folder, "station.inc",
-          "Synthetic. x, y, z of the observer in m, earth-fixed; centre frequency in Hz.", [station])
-    write(folder, "known.inc",
-          "Clock offset in s and frequency offset in Hz that went into recording.inc.", [known])
+    write(folder, "table.sp3", orbit_file())
+    write_rows(folder, "recording.inc",
+               "Synthetic. Instant in ns since 1970-01-01, by the recorder's clock; frequency in Hz.", recording())
+    write_rows(folder, "station.inc",
+               "Synthetic. x, y, z of the observer in m, earth-fixed; centre frequency in Hz.", [station])
+    write_rows(folder, "known.inc",
+               "Clock offset in s and frequency offset in Hz that went into recording.inc.", [known])
     print(f"closest approach: {distance(closest()):.0f} m, {closest()} s after the table's row {ROWS // 2 + 1}")
 
 

@@ -1,8 +1,23 @@
-//! The sample data of examples/data, as C includes them: rows of numbers in braces, and a comment that says what they are.
+//! The sample data of examples/data. The table is an orbit file in SP3-c. The others are as C includes them: rows of numbers in
+//! braces, and a comment that says what they are.
 
-use orbit::{Hertz, Metres, Nanoseconds, Position, Recording, Seconds, Table};
+use orbit::{
+    Hertz, LeapSeconds, Metres, Nanoseconds, Position, Recording, Refusal, Seconds, Table,
+};
 use std::fmt::Debug;
 use std::str::FromStr;
+
+/// The orbit file. It is in GPS time.
+pub const ORBIT_FILE: &[u8] = include_bytes!("../../data/table.sp3");
+
+/// The satellite of the pass, by its three bytes in the orbit file.
+pub const SATELLITE: [u8; 3] = *b"L01";
+
+/// How far GPS time was ahead of UTC on the day of the pass.
+pub const LEAP_SECONDS: LeapSeconds = LeapSeconds(18);
+
+/// The most coordinates of a table: check 1 lets no more pass.
+pub const LONGEST_TABLE: usize = 4096;
 
 /// The offsets that went into the recording.
 pub struct Known {
@@ -23,15 +38,11 @@ pub struct Sample {
 
 impl Sample {
     pub fn load() -> Self {
-        let table = rows(include_str!("../../data/table.inc")).map(|[instant, x, y, z]| {
-            let position = [x, y, z].map(|component| Metres(number(component)));
-            (Nanoseconds(number(instant)), position)
-        });
         let recording = rows(include_str!("../../data/recording.inc"))
             .map(|[instant, frequency]| (Nanoseconds(number(instant)), Hertz(number(frequency))));
         let [x, y, z, centre_frequency] = row(include_str!("../../data/station.inc"));
         let [clock_offset, frequency_offset] = row(include_str!("../../data/known.inc"));
-        let (instants, positions) = table.unzip();
+        let (instants, positions) = read_table(ORBIT_FILE).expect("the orbit file is SP3-c");
         let (samples, frequencies) = recording.unzip();
         Sample {
             instants,
@@ -60,6 +71,16 @@ impl Sample {
             frequencies: &self.frequencies,
         }
     }
+}
+
+/// The instants and positions of the satellite in an orbit file.
+fn read_table(file: &[u8]) -> Result<(Vec<Nanoseconds>, Vec<Position>), Refusal> {
+    let mut instants = vec![Nanoseconds(0); LONGEST_TABLE];
+    let mut positions = vec![Position::default(); LONGEST_TABLE];
+    let count = orbit::read_sp3(file, SATELLITE, LEAP_SECONDS, &mut instants, &mut positions)?;
+    instants.truncate(count);
+    positions.truncate(count);
+    Ok((instants, positions))
 }
 
 /// The words of each row, so many to a row.

@@ -1,10 +1,10 @@
-//! Runs one pass of a satellite from the sample data of examples/data and prints what the library answers; then shows a refusal.
+//! Runs one pass of a satellite from the sample data of examples/data and prints what the library answers; then shows two refusals.
 //! Prints the same lines as examples/c/clock.c. Exit status 0: all was as expected.
 
 mod data;
 
-use data::{Known, Sample};
-use orbit::{Hertz, MeansArea, Metres, Nanoseconds, Recording, Refusal, Report, Seconds};
+use data::{Known, LEAP_SECONDS, LONGEST_TABLE, ORBIT_FILE, SATELLITE, Sample};
+use orbit::{Hertz, MeansArea, Metres, Nanoseconds, Position, Recording, Refusal, Report, Seconds};
 use std::process::ExitCode;
 
 /// How many means are printed, beside the last.
@@ -12,6 +12,12 @@ const MEANS_SHOWN: usize = 3;
 
 /// A mark for the lent areas: no pass of the sample data writes these.
 const MARK: (Nanoseconds, Hertz) = (Nanoseconds(-1), Hertz(-1.0));
+
+/// The same for the areas of a table.
+const MARKED_TABLE: ([Nanoseconds; LONGEST_TABLE], [Position; LONGEST_TABLE]) = (
+    [Nanoseconds(-1); LONGEST_TABLE],
+    [[Metres(-1.0); 3]; LONGEST_TABLE],
+);
 
 /// What is lent for the means of the pass.
 struct Areas {
@@ -60,8 +66,9 @@ fn main() -> ExitCode {
         print_refusal(refusal);
         false
     });
-    let refused = show_refusal(sample);
-    if answered && refused {
+    let kilometres_refused = show_kilometres(sample);
+    let commas_refused = show_commas();
+    if answered && kilometres_refused && commas_refused {
         ExitCode::SUCCESS
     } else {
         ExitCode::FAILURE
@@ -72,9 +79,11 @@ fn main() -> ExitCode {
 fn show_pass(sample: &Sample) -> Result<bool, Refusal> {
     let (coordinates, samples) = (sample.instants.len(), sample.samples.len());
     println!(
-        "A pass: {coordinates} coordinates, {samples} samples, centre frequency {:.0} Hz",
+        "A pass: {samples} samples, centre frequency {:.0} Hz",
         sample.centre_frequency.0
     );
+    let satellite = SATELLITE.escape_ascii();
+    println!("table             {coordinates} coordinates of {satellite} from table.sp3");
     let mut areas = Areas::new(samples);
     let report = run_pass(sample, &mut areas)?;
     let means = areas.means(&report);
@@ -159,26 +168,38 @@ fn print_known(known: &Known, report: &Report) -> bool {
 }
 
 /// The same pass with the table in kilometres is refused, and nothing is written.
-fn show_refusal(mut sample: Sample) -> bool {
+fn show_kilometres(mut sample: Sample) -> bool {
     for Metres(component) in sample.positions.as_flattened_mut() {
         *component /= 1000.0;
     }
     println!("\nThe same pass, the table in kilometres");
     let mut areas = Areas::new(sample.samples.len());
-    let answer = run_pass(&sample, &mut areas);
-    match answer {
-        Ok(_) => println!("NOT refused"),
-        Err(refusal) => print_refusal(refusal),
+    let refusal = run_pass(&sample, &mut areas).err();
+    print_refused(refusal, Refusal::PositionBeyondLimits, areas.untouched())
+}
+
+/// The same file with commas for points is refused, and nothing is written.
+fn show_commas() -> bool {
+    let comma_for_point = |&byte: &u8| if byte == b'.' { b',' } else { byte };
+    let file = &ORBIT_FILE.iter().map(comma_for_point).collect::<Vec<u8>>();
+    println!("\nThe same orbit file, commas for points");
+    let (mut instants, mut positions) = MARKED_TABLE;
+    let answer = orbit::read_sp3(file, SATELLITE, LEAP_SECONDS, &mut instants, &mut positions);
+    let untouched = (instants, positions) == MARKED_TABLE;
+    print_refused(answer.err(), Refusal::OrbitFileUnreadable, untouched)
+}
+
+/// A call that should be refused: whether it was, as expected, and wrote nothing.
+fn print_refused(refusal: Option<Refusal>, expected: Refusal, untouched: bool) -> bool {
+    match refusal {
+        None => println!("NOT refused"),
+        Some(refusal) => print_refusal(refusal),
     }
     println!(
         "lent areas        {}",
-        if areas.untouched() {
-            "untouched"
-        } else {
-            "WRITTEN"
-        }
+        if untouched { "untouched" } else { "WRITTEN" }
     );
-    answer == Err(Refusal::PositionBeyondLimits) && areas.untouched()
+    refusal == Some(expected) && untouched
 }
 
 fn print_refusal(refusal: Refusal) {

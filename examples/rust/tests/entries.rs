@@ -3,10 +3,10 @@
 #[path = "../src/data.rs"]
 mod data;
 
-use data::Sample;
+use data::{LEAP_SECONDS, ORBIT_FILE, SATELLITE, Sample};
 use orbit::{
-    Hertz, HertzPerSecond, MeansArea, Metres, MetresPerSecond, Nanoseconds, Position, Recording,
-    Refusal, Report, Seconds, Table,
+    Hertz, HertzPerSecond, LeapSeconds, MeansArea, Metres, MetresPerSecond, Nanoseconds, Position,
+    Recording, Refusal, Report, Seconds, Table,
 };
 
 const SECOND: i64 = 1_000_000_000;
@@ -43,6 +43,43 @@ fn refusal_of(spoil: impl Fn(&mut Sample)) -> Option<Refusal> {
     let mut sample = Sample::load();
     spoil(&mut sample);
     pass(&sample).0.err()
+}
+
+/// The coordinates of the satellite in the orbit file, and the second since 1970 of the first, in UTC.
+const COORDINATES: usize = 24;
+const FIRST_SECOND: i64 = 1_750_000_020;
+
+/// Room for as many instants and positions.
+const ROOM: (usize, usize) = (COORDINATES, COORDINATES);
+
+/// A mark for the areas of a table: the orbit file holds neither.
+const MARK: (Nanoseconds, Position) = (Nanoseconds(7), [Metres(7.0); 3]);
+
+/// The orbit file, its first such text changed for another.
+fn changed(from: &str, to: &str) -> Vec<u8> {
+    let file = std::str::from_utf8(ORBIT_FILE).unwrap();
+    assert!(file.contains(from), "{from}");
+    file.replacen(from, to, 1).into_bytes()
+}
+
+/// What is read of a satellite into marked areas for so many instants and positions, and the areas afterwards.
+fn read(
+    file: &[u8],
+    satellite: [u8; 3],
+    leap_seconds: LeapSeconds,
+    room: (usize, usize),
+) -> (Result<usize, Refusal>, Vec<Nanoseconds>, Vec<Position>) {
+    let (mut instants, mut positions) = (vec![MARK.0; room.0], vec![MARK.1; room.1]);
+    let answer = orbit::read_sp3(file, satellite, leap_seconds, &mut instants, &mut positions);
+    (answer, instants, positions)
+}
+
+/// The refusal of such a read, which writes nothing.
+fn refusal_of_file(file: &[u8], satellite: [u8; 3], room: (usize, usize)) -> Refusal {
+    let (answer, instants, positions) = read(file, satellite, LEAP_SECONDS, room);
+    assert!(instants.iter().all(|&instant| instant == MARK.0));
+    assert!(positions.iter().all(|&position| position == MARK.1));
+    answer.unwrap_err()
 }
 
 fn identity() -> orbit::Matrix {
@@ -148,6 +185,96 @@ fn pass_is_the_fit_of_the_means() {
 }
 
 #[test]
+fn table_from_the_orbit_file() {
+    let room = (COORDINATES + 2, COORDINATES + 1);
+    let (answer, instants, positions) = read(ORBIT_FILE, SATELLITE, LEAP_SECONDS, room);
+    assert_eq!(answer, Ok(COORDINATES));
+    let minutes = 0..COORDINATES as i64;
+    let expected = minutes.map(|k| Nanoseconds((FIRST_SECOND + 60 * k) * SECOND));
+    assert!(instants[..COORDINATES].iter().copied().eq(expected));
+    let numbers = |row: usize| positions[row].map(|component| component.0);
+    assert_eq!(numbers(0), [5_664_825.0, -3_564_902.0, 1_761_099.0]);
+    assert_eq!(numbers(23), [1_862_723.0, 4_000_047.0, 5_331_991.0]);
+    assert_eq!(instants[COORDINATES..], [MARK.0; 2]);
+    assert_eq!(positions[COORDINATES..], [MARK.1]);
+}
+
+#[test]
+fn positions_of_the_satellite_alone() {
+    let file = changed("5664.825000", "5664.825123");
+    let (_, _, positions) = read(&file, SATELLITE, LEAP_SECONDS, ROOM);
+    assert_eq!(positions[0][0], Metres(5_664_825.123));
+    let (answer, _, others) = read(ORBIT_FILE, *b"L02", LEAP_SECONDS, ROOM);
+    assert_eq!(answer, Ok(COORDINATES));
+    assert!(others[0] != positions[0]);
+    let file = changed("PL02 ", "PL02?");
+    let answer = read(&file, SATELLITE, LEAP_SECONDS, ROOM).0;
+    assert_eq!(answer, Ok(COORDINATES));
+}
+
+#[test]
+fn three_zeros_are_left_out() {
+    let file = changed(
+        "  5664.825000  -3564.902000   1761.099000",
+        "     0.000000     -0.000000      0.000000",
+    );
+    let (answer, instants, _) = read(&file, SATELLITE, LEAP_SECONDS, ROOM);
+    assert_eq!(answer, Ok(COORDINATES - 1));
+    assert_eq!(instants[0], Nanoseconds((FIRST_SECOND + 60) * SECOND));
+}
+
+#[test]
+fn leap_seconds_are_taken_off_gps_time() {
+    let written = FIRST_SECOND + i64::from(LEAP_SECONDS.0);
+    let in_utc = changed("GPS", "UTC");
+    for count in [0, 18, -1, i16::MAX, i16::MIN] {
+        let first = |file| read(file, SATELLITE, LeapSeconds(count), ROOM).1[0];
+        let lessened = written - i64::from(count);
+        assert_eq!(first(ORBIT_FILE), Nanoseconds(lessened * SECOND));
+        assert_eq!(first(&in_utc), Nanoseconds(written * SECOND));
+    }
+}
+
+#[test]
+fn files_that_are_not_by_sp3_c() {
+    let files = [
+        changed("#c", "#d"),
+        changed("*  2025  6 15", "*  2025  6 31"),
+        changed("*  2025", "*  2097"),
+        changed("*  2025  6 15 15  7 18.00000000\n", ""),
+        changed("18.00000000\nPL01", "18,00000000\nPL01"),
+        changed("1761.099000", "1761,099000"),
+        ORBIT_FILE[..ORBIT_FILE.len() - 150].to_vec(),
+    ];
+    for file in files {
+        let refusal = refusal_of_file(&file, SATELLITE, ROOM);
+        assert_eq!(
+            (refusal, refusal.number()),
+            (Refusal::OrbitFileUnreadable, 11)
+        );
+    }
+}
+
+#[test]
+fn other_refusals_of_the_orbit_file() {
+    let file = changed("GPS", "TAI");
+    let refusal = refusal_of_file(&file, SATELLITE, ROOM);
+    assert_eq!(refusal, Refusal::TimeSystemUnknown);
+    assert_eq!(refusal.number(), 12);
+    let short = [
+        (COORDINATES - 1, COORDINATES),
+        (COORDINATES, COORDINATES - 1),
+    ];
+    let refused = [
+        refusal_of_file(ORBIT_FILE, *b"L03", ROOM),
+        refusal_of_file(ORBIT_FILE, SATELLITE, short[0]),
+        refusal_of_file(ORBIT_FILE, SATELLITE, short[1]),
+    ];
+    assert_eq!(refused, [Refusal::NoPositionOrNoRoom; 3]);
+    assert_eq!(refused[0].number(), 13);
+}
+
+#[test]
 fn refusals_of_the_pass() {
     use Refusal::*;
     let refused = [
@@ -204,4 +331,8 @@ fn empty_slices_are_refused() {
         frequencies: &[],
     };
     assert_eq!(orbit::steepest_slope(recording), Err(Refusal::SampleCount));
+    let refused = orbit::read_sp3(&[], SATELLITE, LEAP_SECONDS, &mut [], &mut []);
+    assert_eq!(refused, Err(Refusal::OrbitFileUnreadable));
+    let refused = orbit::read_sp3(ORBIT_FILE, SATELLITE, LEAP_SECONDS, &mut [], &mut []);
+    assert_eq!(refused, Err(Refusal::NoPositionOrNoRoom));
 }
