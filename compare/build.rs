@@ -30,7 +30,7 @@ fn main() {
     let text = fs::read_to_string(&source)
         .unwrap_or_else(|error| panic!("cannot read {}: {error}", source.display()));
     let whole: String = ITEMS.iter().map(|header| slice(&text, header)).collect();
-    let sliced = whole + &orbit_model(&text) + &steepest_slope(&text);
+    let sliced = whole + &orbit_model(&text) + &steepest_slope(&text) + &parse_sp3_file(&text);
     let output = path_in("OUT_DIR").join("orbit_sliced.rs");
     fs::write(&output, sliced)
         .unwrap_or_else(|error| panic!("cannot write {}: {error}", output.display()));
@@ -83,6 +83,21 @@ fn orbit_model(text: &str) -> String {
 fn steepest_slope(text: &str) -> String {
     let block = part(text, "        let mut min_slope = 0.0;");
     format!("fn min_slope(data: &[(DateTime<Utc>, f64)]) -> f64 {{\n{block}\n    min_slope\n}}\n")
+}
+
+/// The reader of orbit files, made to read a lent slice instead of the file of a path.
+fn parse_sp3_file(text: &str) -> String {
+    let reader = slice(text, "pub fn parse_sp3_file(");
+    let changes = [
+        ("path: &str", "bytes: &[u8]"),
+        ("    use std::fs::File;\n", ""),
+        ("File::open(path)?", "bytes"),
+    ];
+    changes.iter().fold(reader, |reader, (words, instead)| {
+        let count = reader.matches(words).count();
+        assert!(count == 1, "`{words}` stands {count} times in the reader");
+        reader.replace(words, instead)
+    })
 }
 
 /// The text from the one line that starts with the header to the brace that closes the first one after it.

@@ -41,7 +41,7 @@ fn tell(entry: Entry, call: &Call, answer: &Answer, expected: &Answer) -> String
 }
 
 /// The words, one blank between; of a long list the first ones.
-fn shown(words: &[String]) -> String {
+pub fn shown(words: &[String]) -> String {
     if words.len() <= SHOWN {
         return words.join(" ");
     }

@@ -11,4 +11,5 @@ pub mod passes;
 pub mod polynomials;
 pub mod random;
 pub mod recordings;
+pub mod sp3;
 pub mod tables;

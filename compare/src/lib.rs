@@ -3,7 +3,9 @@
 pub mod answers;
 pub mod calls;
 pub mod checks;
+pub mod description;
 pub mod expected;
+pub mod files;
 pub mod inputs;
 pub mod reference;
 pub mod words;

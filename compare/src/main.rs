@@ -6,23 +6,28 @@
         feature = "orbit",
         feature = "approach",
         feature = "means",
-        feature = "fit"
+        feature = "fit",
+        feature = "sp3"
     )),
     allow(dead_code)
 )]
 
 #[cfg(feature = "approach")]
 mod approach;
+#[cfg(feature = "numbers")]
 mod chebyshev;
 mod driver;
 #[cfg(feature = "fit")]
 mod fit;
 #[cfg(feature = "means")]
 mod means;
+#[cfg(feature = "numbers")]
 mod numbers;
 #[cfg(feature = "orbit")]
 mod orbit;
 mod ours;
+#[cfg(feature = "sp3")]
+mod sp3;
 mod tally;
 mod timing;
 
@@ -36,7 +41,9 @@ type Group = (fn(&mut Total), fn() -> Vec<Row>);
 
 /// The groups that our library has.
 const GROUPS: &[Group] = &[
+    #[cfg(feature = "numbers")]
     (numbers::compare, numbers::time),
+    #[cfg(feature = "numbers")]
     (chebyshev::compare, chebyshev::time),
     #[cfg(feature = "orbit")]
     (orbit::compare, orbit::time),
@@ -46,6 +53,8 @@ const GROUPS: &[Group] = &[
     (means::compare, means::time),
     #[cfg(feature = "fit")]
     (fit::compare, fit::time),
+    #[cfg(feature = "sp3")]
+    (sp3::compare, sp3::time),
 ];
 
 /// Compares all groups and times them; with `--times` it only times them, and compares nothing.

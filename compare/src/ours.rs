@@ -2,7 +2,7 @@
 
 #[cfg(feature = "approach")]
 pub mod approach;
-#[cfg(any(feature = "means", feature = "fit"))]
+#[cfg(any(feature = "means", feature = "fit", feature = "sp3"))]
 mod areas;
 #[cfg(feature = "fit")]
 pub mod fit;
@@ -10,6 +10,8 @@ pub mod fit;
 pub mod means;
 #[cfg(feature = "orbit")]
 pub mod orbit;
+#[cfg(feature = "sp3")]
+pub mod sp3;
 // Not every group takes every unit.
 #[allow(dead_code)]
 mod units;

@@ -3,11 +3,16 @@
 //! Each function below is one call from the driver, as each entry of our library is.
 
 // The style of the sliced text is its author's.
-#![allow(clippy::needless_range_loop, clippy::manual_memcpy)]
+#![allow(
+    clippy::needless_range_loop,
+    clippy::manual_memcpy,
+    clippy::collapsible_if
+)]
 
 use crate::inputs::recordings::Recording;
 use crate::inputs::tables::Table;
-use chrono::{DateTime, TimeZone, Utc};
+use chrono::{DateTime, NaiveDateTime, TimeZone, Utc};
+use std::io;
 
 include!(concat!(env!("OUT_DIR"), "/orbit_sliced.rs"));
 
@@ -23,6 +28,19 @@ impl TimestampNanosOpt for DateTime<Utc> {
         let seconds = i128::from(self.timestamp());
         let rest = i128::from(self.timestamp_subsec_nanos());
         i64::try_from(seconds * 1_000_000_000 + rest).ok()
+    }
+}
+
+/// Another one.
+#[allow(dead_code)]
+trait FromNaiveUtcAndOffset {
+    /// The instant of a date and time in UTC.
+    fn from_naive_utc_and_offset(date_and_time: NaiveDateTime, offset: Utc) -> Self;
+}
+
+impl FromNaiveUtcAndOffset for DateTime<Utc> {
+    fn from_naive_utc_and_offset(date_and_time: NaiveDateTime, offset: Utc) -> Self {
+        offset.from_utc_datetime(&date_and_time)
     }
 }
 
@@ -206,4 +224,10 @@ pub fn pass(
     let means = downsample_data(samples);
     let report = fit_satellite(orbit, &means, observer, centre, measured(&means));
     (means, report)
+}
+
+/// The orbits of all satellites of a file, in any order.
+#[inline(never)]
+pub fn orbits(bytes: &[u8]) -> io::Result<Vec<SatelliteOrbit>> {
+    parse_sp3_file(bytes)
 }

@@ -14,6 +14,18 @@ pub struct Row {
     name: &'static str,
     ours: f64,
     rust: Option<f64>,
+    /// How many bytes a call reads, where these are counted.
+    bytes: Option<usize>,
+}
+
+impl Row {
+    /// The same row of a call that reads so many bytes.
+    pub fn of_bytes(self, bytes: usize) -> Row {
+        Row {
+            bytes: Some(bytes),
+            ..self
+        }
+    }
 }
 
 /// Times one function on both sides.
@@ -33,6 +45,7 @@ pub fn row<I, A, B>(
         name,
         ours: middle(our_rounds),
         rust: Some(middle(rust_rounds)),
+        bytes: None,
     }
 }
 
@@ -43,6 +56,7 @@ pub fn row_of_ours<I, A>(name: &'static str, inputs: &[I], mut ours: impl FnMut(
         name,
         ours: middle(rounds.collect()),
         rust: None,
+        bytes: None,
     }
 }
 
@@ -51,6 +65,8 @@ fn bar(name: &str) -> Option<f64> {
     let starts = |word: &str| name.starts_with(word);
     if starts("sqrt") || starts("nearest") || starts("truncated") || starts("its checks") {
         None
+    } else if starts("read_sp3") {
+        name.contains("a day").then_some(0.3)
     } else if starts("fit_satellite") || starts("pass") {
         Some(if name.contains("uneven") { 1.05 } else { 0.70 })
     } else if starts("downsample_data") && name.contains("in order") {
@@ -60,12 +76,12 @@ fn bar(name: &str) -> Option<f64> {
     }
 }
 
-/// Prints the table: each entry, both sides, the ratio, its bar, and what is above it.
+/// Prints the table: each entry, both sides, the ratio, its bar, what is above it, and how many bytes ours reads.
 pub fn print(rows: &[Row]) {
     let number = |x: f64| format!("{x:.2}");
     let some = |x: Option<f64>| x.map_or(String::new(), number);
     println!();
-    print_line(["ns per call", "ours", "Rust", "ours / Rust", "bar", ""]);
+    print_line(["ns per call", "ours", "Rust", "ours / Rust", "bar", "", ""]);
     for row in rows {
         let ratio = row.rust.map(|rust| row.ours / rust);
         let bar = bar(row.name);
@@ -77,14 +93,26 @@ pub fn print(rows: &[Row]) {
             &some(ratio),
             &some(bar),
             if above { "above" } else { "" },
+            &speed(row),
         ]);
     }
     println!();
 }
 
 /// Prints one line of the table.
-fn print_line([name, ours, rust, ratio, bar, above]: [&str; 6]) {
-    println!("{name:36}{ours:>14}{rust:>14}{ratio:>14}{bar:>8}  {above}");
+fn print_line([name, ours, rust, ratio, bar, above, speed]: [&str; 7]) {
+    println!("{name:36}{ours:>14}{rust:>14}{ratio:>14}{bar:>8}  {above}{speed}");
+}
+
+/// How fast ours reads, where bytes are counted.
+fn speed(row: &Row) -> String {
+    let speed = |bytes: usize| {
+        format!(
+            "  {:.0} million bytes a second",
+            bytes as f64 * 1e3 / row.ours
+        )
+    };
+    row.bytes.map_or(String::new(), speed)
 }
 
 /// The nanoseconds of a call in one round, which goes through all inputs again and again.

@@ -1,4 +1,4 @@
-//! The two areas that are lent for means, filled with markers, and some room behind each that is not lent.
+//! The two areas that are lent for means, or for the records of a file, filled with markers, and some room behind each that is not lent.
 
 use compare::answers::{both_areas, marked_frequencies, marked_instants};
 use compare::words::Word;

@@ -11,3 +11,7 @@ pub struct Hertz(pub f64);
 /// An instant.
 #[repr(C)]
 pub struct Nanoseconds(pub i64);
+
+/// Leap seconds.
+#[repr(C)]
+pub struct LeapSeconds(pub i16);
