@@ -7,9 +7,12 @@ mod fit;
 mod numbers;
 mod orbit;
 mod samples;
+mod sp3;
 
 use compare::calls::{Call, Entry};
+use compare::description;
 use compare::expected;
+use compare::files::FileCall;
 use compare::inputs::matrices::Matrix;
 use compare::inputs::paper;
 use compare::inputs::polynomials::Polynomial;
@@ -19,6 +22,9 @@ use compare::words::{Word, hex, hex_whole};
 use std::path::PathBuf;
 use std::{env, fs, io};
 
+/// Whether the cases of the reader of orbit files are written; `replay` must know its lines.
+const WITH_SP3: bool = false;
+
 /// One call of one entry.
 enum Case {
     Sqrt(f64),
@@ -27,6 +33,7 @@ enum Case {
     EvaluateChebyshev(Polynomial),
     InvertMatrix10(Box<Matrix>),
     Of(Entry, Box<Call>),
+    ReadSp3(FileCall),
 }
 
 impl Case {
@@ -39,6 +46,7 @@ impl Case {
             Case::EvaluateChebyshev(_) => "evaluate_chebyshev",
             Case::InvertMatrix10(_) => "invert_matrix_10",
             Case::Of(entry, _) => entry.name(),
+            Case::ReadSp3(_) => "read_sp3",
         }
     }
 
@@ -53,6 +61,7 @@ impl Case {
             }
             Case::InvertMatrix10(rows) => rows.as_flattened().iter().map(|&x| hex(x)).collect(),
             Case::Of(entry, call) => call.arguments(*entry),
+            Case::ReadSp3(call) => call.arguments(),
         }
     }
 
@@ -68,6 +77,7 @@ impl Case {
             }
             Case::InvertMatrix10(rows) => inverse_answers(reference::inverse(rows)),
             Case::Of(entry, call) => expected::answer(*entry, call).words(),
+            Case::ReadSp3(call) => description::answer(call).words(),
         }
     }
 }
@@ -111,6 +121,9 @@ fn all_cases() -> Vec<Case> {
     let calls = [orbit::cases(), samples::cases(), fit::cases()].into_iter();
     let calls = calls.flatten();
     cases.extend(calls.map(|(entry, call)| Case::Of(entry, Box::new(call))));
+    if WITH_SP3 {
+        cases.extend(sp3::cases().into_iter().map(Case::ReadSp3));
+    }
     cases
 }
 
