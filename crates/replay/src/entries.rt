@@ -11,7 +11,9 @@ use crate::printer::print_wholes;
 use crate::printer::print_word;
 use crate::words::Case;
 use crate::words::Doubles;
+use crate::words::FILE;
 use crate::words::Wholes;
+use crate::words::bytes_of;
 use crate::words::doubles_in;
 use crate::words::observer;
 use crate::words::ten_doubles;
@@ -25,7 +27,9 @@ use orbit::Propagation;
 use samples::Approach;
 use samples::Downsampled;
 use samples::Slope;
+use sp3::Sp3Read;
 use units::Hertz;
+use units::LeapSeconds;
 use units::Nanoseconds;
 use units::Seconds;
 
@@ -36,7 +40,7 @@ const AREA: usize = 4200;
 pub(crate) fn number_of(name: &[u8]) -> usize {
     let names: &[u8] =
         b"sqrt nearest truncated evaluate_chebyshev invert_matrix_10 get_chebyshev_model propagate_ecef evaluate find_pca_time \
-        downsample_data estimate_measured_pca_time steepest_slope estimate_slant_range fit_satellite pass ";
+        downsample_data estimate_measured_pca_time steepest_slope estimate_slant_range fit_satellite pass read_sp3 ";
     let mut number = 0;
     let mut from = 0;
     let mut i = 0;
@@ -115,6 +119,7 @@ fn answer_with_areas(number: usize, case: Case, wholes: &Wholes, doubles: &Doubl
     let is_case = match number {
         9 => downsample_data(case, wholes, doubles, instant_area, frequency_area),
         14 => pass(case, wholes, doubles, instant_area, frequency_area),
+        15 => read_sp3(case, wholes, instant_area, frequency_area),
         _ => return false,
     };
     print_wholes(instant_area);
@@ -330,4 +335,53 @@ fn pass(
         frequency_area,
     ));
     case.after_four == 6
+}
+
+// The three bytes of a satellite, the first one lowest.
+fn satellite_of(word: u64) -> [u8; 3] {
+    [
+        (word % 256) as u8,
+        (word / 256 % 256) as u8,
+        (word / 65536 % 256) as u8,
+    ]
+}
+
+// The leap seconds of a word; 0 where 16 bits do not hold it.
+fn leap_seconds_of(word: i64) -> LeapSeconds {
+    if word < -32768 {
+        return LeapSeconds(0);
+    }
+    if word > 32767 {
+        return LeapSeconds(0);
+    }
+    LeapSeconds(word as i16)
+}
+
+// `read_sp3 FILE BYTES SATELLITE LEAP_SECONDS LENGTH LENGTH`: the refusal, or 0 and the count; the areas follow.
+fn read_sp3(
+    case: Case,
+    wholes: &Wholes,
+    instant_area: &mut [i64],
+    position_area: &mut [f64],
+) -> bool {
+    let file = bytes_of(wholes);
+    let length = unsigned(whole_at(wholes, case.first, 0)) as usize;
+    if length > FILE {
+        return false;
+    }
+    let read = sp3::read_sp3(
+        &file[0..length],
+        satellite_of(unsigned(whole_at(wholes, case.first, 1))),
+        leap_seconds_of(whole_at(wholes, case.first, 2)),
+        instant_area,
+        position_area,
+    );
+    match read {
+        Sp3Read::Refused(refusal) => print_refusal(refusal),
+        Sp3Read::Count(count) => {
+            print_refusal(0);
+            print_word(count as u64);
+        }
+    }
+    case.after_one == 5
 }

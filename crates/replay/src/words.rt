@@ -15,17 +15,21 @@ pub(crate) type Wholes = [i64; ROOM];
 // The words of a case as doubles.
 pub(crate) type Doubles = [f64; ROOM];
 
+// How many bytes an orbit file may have.
+pub(crate) const FILE: usize = 1024;
+
 // Past every place: there is no such slice.
 const NOWHERE: usize = 0x8000_0000_0000_0000;
 
 // How many words a case has; where its first four slices end, which is where the next one's length stands, or the first word after the slices; and
-// how many words there are after two slices and after four, a number that no case has where there are no such slices.
+// how many words there are after one slice, after two and after four, a number that no case has where there are no such slices.
 pub(crate) struct Case {
     pub count: usize,
     pub first: usize,
     pub second: usize,
     pub third: usize,
     pub fourth: usize,
+    pub after_one: usize,
     pub after_two: usize,
     pub after_four: usize,
 }
@@ -57,6 +61,7 @@ pub(crate) fn case_of(wholes: &Wholes, count: usize) -> Case {
         second,
         third,
         fourth,
+        after_one: wrapping_sub_usize(count, first),
         after_two: wrapping_sub_usize(count, second),
         after_four: wrapping_sub_usize(count, fourth),
     }
@@ -112,4 +117,18 @@ pub(crate) fn observer(words: [f64; 10]) -> Observer {
         y: Metres(words[1]),
         z: Metres(words[2]),
     }
+}
+
+// The bytes of the first slice, eight in each word, the first one lowest.
+pub(crate) fn bytes_of(wholes: &Wholes) -> [u8; FILE] {
+    let mut bytes = [0u8; FILE];
+    let mut word: u64 = 0;
+    for i in 0..FILE {
+        if i % 8 == 0 {
+            word = unsigned(wholes[1 + i / 8]);
+        }
+        bytes[i] = (word % 256) as u8;
+        word = word / 256;
+    }
+    bytes
 }

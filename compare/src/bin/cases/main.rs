@@ -22,9 +22,6 @@ use compare::words::{Word, hex, hex_whole};
 use std::path::PathBuf;
 use std::{env, fs, io};
 
-/// Whether the cases of the reader of orbit files are written; `replay` must know its lines.
-const WITH_SP3: bool = false;
-
 /// One call of one entry.
 enum Case {
     Sqrt(f64),
@@ -121,9 +118,7 @@ fn all_cases() -> Vec<Case> {
     let calls = [orbit::cases(), samples::cases(), fit::cases()].into_iter();
     let calls = calls.flatten();
     cases.extend(calls.map(|(entry, call)| Case::Of(entry, Box::new(call))));
-    if WITH_SP3 {
-        cases.extend(sp3::cases().into_iter().map(Case::ReadSp3));
-    }
+    cases.extend(sp3::cases().into_iter().map(Case::ReadSp3));
     cases
 }
 
