@@ -1,19 +1,11 @@
 -- Cases by computation: what the definition gives for single texts.
 use Prim.Native.Nat.{ℕ}
-use Prim.Native.Char.{code}
-use Prim.Native.String.{String}
-use Prim.Native.String.{[] as none, _∷_ as _then_}
 use mathlib.Core.Path.{_≡_, refl}
 use mathlib.Core.Bool.{Bool, true, false}
-use mathlib.Core.List.{List, [], _∷_}
+use Rattle.common.specs.Text.{text}
 use Rattle.decimal.specs.declared.reading.Field.{Field}
 use Rattle.decimal.specs.declared.reading.Field.the-variants.{Holds, Other}
 use Rattle.decimal.specs.Reading.{afterBlanks, digitsBehind, someDigits, signedDigits, withDecimals, wholeOf, decimalOf}
-
--- the bytes of a text in ASCII
-abbrev text : String → List ℕ
-text none = []
-text (c then s) = code c ∷ text s
 
 -- a number with its sign
 abbrev number : Bool → ℕ → Field

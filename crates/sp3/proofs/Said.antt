@@ -12,7 +12,8 @@ use Rattle.units.specs.declared.LeapSeconds.{LeapSeconds}
 use Rattle.sp3.specs.declared.line.Line.the-variants.{Passed}
 use Rattle.sp3.specs.declared.header.TimeSystem.{TimeSystem}
 use Rattle.sp3.specs.declared.header.TimeSystem.the-variants.{Less, Other, Missing}
-use Rattle.sp3.specs.Lines.{text, begins}
+use Rattle.common.specs.Text.{text}
+use Rattle.sp3.specs.Lines.{begins}
 use Rattle.sp3.specs.Columns.{epochIn, placeIn, lineOf}
 use Rattle.sp3.specs.Header.{noLeaps, systemIn}
 use Rattle.sp3.proofs.Cursor.{part}

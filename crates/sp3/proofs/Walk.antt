@@ -12,7 +12,8 @@ use Rattle.sp3.specs.declared.line.Line.{Line}
 use Rattle.sp3.specs.declared.line.Line.the-variants.{Epoch, Place, Absent, Wrong, Passed}
 use Rattle.sp3.specs.declared.header.TimeSystem.{TimeSystem}
 use Rattle.sp3.specs.declared.records.Looked.the-variants.{Found, Undescribed}
-use Rattle.sp3.specs.Lines.{text, lines, begins}
+use Rattle.common.specs.Text.{text}
+use Rattle.sp3.specs.Lines.{lines, begins}
 use Rattle.sp3.specs.Columns.{lineOf}
 use Rattle.sp3.specs.Records.{Kept, body, faulty, instantAfter, keptOf, kept, instantsOf, positionsOf}
 use Rattle.common.specs.Outcome.{written}

@@ -16,7 +16,8 @@ use Rattle.calendar.specs.Gregorian.{leap, sum, daysOfYears}
 use Rattle.sp3.specs.declared.line.Line.{Line}
 use Rattle.sp3.specs.declared.line.Line.the-variants.{Wrong, Passed}
 use Rattle.sp3.specs.declared.header.TimeSystem.the-variants.{Less}
-use Rattle.sp3.specs.Lines.{lineFeed, text, lines, begins}
+use Rattle.common.specs.Text.{text}
+use Rattle.sp3.specs.Lines.{lineFeed, lines, begins}
 use Rattle.sp3.specs.Header.{headed, systemIn}
 use Rattle.sp3.specs.Columns.{epochIn, placeIn, lineOf}
 use Rattle.sp3.specs.Records.{Kept, body, untimed, kept}

@@ -21,7 +21,8 @@ use Rattle.sp3.specs.declared.line.Line.{Line}
 use Rattle.sp3.specs.declared.line.Line.the-variants.{Epoch, Place, Absent, Wrong, Passed}
 use Rattle.sp3.specs.declared.header.TimeSystem.{TimeSystem}
 use Rattle.sp3.specs.declared.header.TimeSystem.the-variants.{Less, Other, Missing}
-use Rattle.sp3.specs.Lines.{text, begins}
+use Rattle.common.specs.Text.{text}
+use Rattle.sp3.specs.Lines.{begins}
 
 -- what a reading makes of the columns from first to last; a line that does not have them holds no number there
 abbrev pub columns : ℕ → ℕ → (List ℕ → Field) → List ℕ → Field

@@ -8,7 +8,8 @@ use lib.ListN.{length, getD, drop}
 use Rattle.units.specs.declared.LeapSeconds.{LeapSeconds}
 use Rattle.sp3.specs.declared.header.TimeSystem.{TimeSystem}
 use Rattle.sp3.specs.declared.header.TimeSystem.the-variants.{Less, Other, Missing}
-use Rattle.sp3.specs.Lines.{text, begins}
+use Rattle.common.specs.Text.{text}
+use Rattle.sp3.specs.Lines.{begins}
 
 -- the first two bytes of the header's lines, by the SP3-c description
 abbrev pub beginnings : List (List ℕ)

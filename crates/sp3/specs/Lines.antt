@@ -1,16 +1,8 @@
 -- "Lines end at a line feed": the bytes behind the last line feed, if there are any, are a line too.
 use Prim.Native.Nat.{ℕ}
-use Prim.Native.Char.{code}
-use Prim.Native.String.{String}
-use Prim.Native.String.{[] as none, _∷_ as _then_}
 use mathlib.Core.Bool.{Bool, true, false, cond, _&&_}
 use mathlib.Core.List.{List, [], _∷_}
 use lib.Dec.{eqb}
-
--- the bytes of a text in ASCII
-abbrev pub text : String → List ℕ
-text none = []
-text (c then s) = code c ∷ text s
 
 -- the byte of a line feed
 abbrev pub lineFeed : ℕ

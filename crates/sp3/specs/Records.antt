@@ -8,7 +8,8 @@ use Rattle.units.specs.declared.Position.{Position}
 use Rattle.checks.specs.Checks.{any}
 use Rattle.sp3.specs.declared.line.Line.{Line}
 use Rattle.sp3.specs.declared.line.Line.the-variants.{Epoch, Place, Absent, Wrong, Passed}
-use Rattle.sp3.specs.Lines.{text, begins}
+use Rattle.common.specs.Text.{text}
+use Rattle.sp3.specs.Lines.{begins}
 
 -- "up to a line that begins EOF or the slice's end"
 unfoldable pub body : List (List ℕ) → List (List ℕ)

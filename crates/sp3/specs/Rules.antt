@@ -13,7 +13,8 @@ use Rattle.decimal.specs.declared.reading.Field.{Field}
 use Rattle.decimal.specs.declared.reading.Field.the-variants.{Holds}
 use Rattle.decimal.specs.declared.reading.Field.the-variants.{Other as NoNumber}
 use Rattle.sp3.specs.declared.line.Line.{Line}
-use Rattle.sp3.specs.Lines.{lineFeed, text, begins}
+use Rattle.common.specs.Text.{text}
+use Rattle.sp3.specs.Lines.{lineFeed, begins}
 use Rattle.sp3.specs.Columns.{absent, metresOf, metreUnits, x, y, z}
 use Rattle.sp3.specs.Records.{isEpoch, instantAfter}
 

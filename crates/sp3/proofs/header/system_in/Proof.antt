@@ -4,7 +4,8 @@ use mathlib.Core.Path.{refl, sym, ap, _∙_}
 use mathlib.Core.Bool.{true, false}
 use native.Mathlib.Omega.{arith}
 use lib.ListN.{drop}
-use Rattle.sp3.specs.Lines.{text, begins}
+use Rattle.common.specs.Text.{text}
+use Rattle.sp3.specs.Lines.{begins}
 use Rattle.sp3.proofs.Said.{tail, short-system, by-system}
 use Rattle.sp3.proofs.header.system_in.Statement.{statement}
 use Rattle.sp3.proofs.header.system_in.Tie as tie
