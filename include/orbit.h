@@ -36,7 +36,7 @@
  *       What to do: take a recording that holds the closest approach, with at least three samples some milliseconds apart.
  *   10  What is wrong: no shift of the clock fits the recording.
  *       What to do: look whether recording, table, observer and centre frequency belong to the same pass.
- *   11  What is wrong: a header line, an epoch or a position of the satellite is not by SP3-c, or a date is not real or beyond the limit of 4.
+ *   11  What is wrong: a header line, a date or a position of the satellite is not as SP3-c has it, a position stands before the first date, or a date is not real or farther from 1970 than refusal 4 allows.
  *       What to do: fetch the orbit file again, whole and unedited; if it is refused again, ask its sender for SP3-c.
  *   12  What is wrong: the orbit file's time system is neither UTC nor GPS.
  *       What to do: take a file in UTC or GPS time; its line 13 says which, in columns 10 to 12.
@@ -152,7 +152,8 @@ uint8_t orbit_pass(const int64_t *instants, size_t instant_count, const double *
 /* The positions of one satellite in the bytes of an orbit file in SP3-c, in the file's order, as instants and x, y, z in metres at the
  * front of the two areas; the rest of each stays. The satellite is its three bytes in the file, such as {'G', '0', '5'}. A file in UTC
  * gives its own instants; one in GPS time gives them less the leap seconds. A position of three zeros is absent and left out. The number
- * of positions goes into count. Refuses by 11, 12, 13. */
+ * of positions goes into count. Instants that fall or repeat in the file are given as they stand, and a table of them is refused by 5 where
+ * it is used. Refuses by 11, 12, 13. */
 uint8_t orbit_read_sp3(const uint8_t *bytes, size_t byte_count, const uint8_t satellite[3], orbit_leap_seconds leap_seconds,
                        int64_t *instants, size_t instant_count, double *positions, size_t position_count, uint64_t *count);
 

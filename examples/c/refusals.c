@@ -31,7 +31,7 @@ static const refusal_text texts[] = {
      "take a recording that holds the closest approach, with at least three samples some milliseconds apart."},
     {10, "no shift of the clock fits the recording.",
      "look whether recording, table, observer and centre frequency belong to the same pass."},
-    {11, "a header line, an epoch or a position of the satellite is not by SP3-c, or a date is not real or beyond the limit of 4.",
+    {11, "a header line, a date or a position of the satellite is not as SP3-c has it, a position stands before the first date, or a date is not real or farther from 1970 than refusal 4 allows.",
      "fetch the orbit file again, whole and unedited; if it is refused again, ask its sender for SP3-c."},
     {12, "the orbit file's time system is neither UTC nor GPS.",
      "take a file in UTC or GPS time; its line 13 says which, in columns 10 to 12."},

@@ -5,13 +5,13 @@ use borrow.Author.Tests.{leb-true, ltb-true}
 use lib.Dec.{leb, ltb}
 use Rattle.common.specs.Time.{second}
 use Rattle.calendar.specs.declared.gregorian.Calendar.{Calendar}
-use Rattle.calendar.specs.Gregorian.{leap, daysOfMonth, lastYear, hours, minutes, seconds, realDate, realTime, real}
+use Rattle.calendar.specs.Gregorian.{leap, daysOfMonth, lastYear, monthsInYear, hoursInDay, minutesInHour, secondsInMinute, realDate, realTime, real}
 use Rattle.calendar.specs.Formulas.{RealDate, RealTime, Real}
 use Rattle.calendar.proofs.Tests.{both, all-four, all-six}
 
 date-facts : (c : Calendar) → realDate c ≡ true → RealDate c
 date-facts c h =
-    let t = all-six (leb 1 (c .year)) (leb (c .year) lastYear) (leb 1 (c .month)) (leb (c .month) 12) (leb 1 (c .day)) (leb (c .day) (daysOfMonth (leap (c .year)) (c .month))) h in
+    let t = all-six (leb 1 (c .year)) (leb (c .year) lastYear) (leb 1 (c .month)) (leb (c .month) monthsInYear) (leb 1 (c .day)) (leb (c .day) (daysOfMonth (leap (c .year)) (c .month))) h in
     record {
       year-from = leb-true _ _ (t .0);
       year-to = leb-true _ _ (t .1);
@@ -23,7 +23,7 @@ date-facts c h =
 
 time-facts : (c : Calendar) → realTime c ≡ true → RealTime c
 time-facts c h =
-    let t = all-four (ltb (c .hour) hours) (ltb (c .minute) minutes) (ltb (c .second) seconds) (ltb (c .nanosecond) second) h in
+    let t = all-four (ltb (c .hour) hoursInDay) (ltb (c .minute) minutesInHour) (ltb (c .second) secondsInMinute) (ltb (c .nanosecond) second) h in
     record { hour-to = ltb-true _ _ (t .0); minute-to = ltb-true _ _ (t .1); second-to = ltb-true _ _ (t .2); nanosecond-to = ltb-true _ _ (t .3) }
 
 pub facts : (c : Calendar) → real c ≡ true → Real c

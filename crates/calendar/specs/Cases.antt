@@ -30,7 +30,7 @@ first = record { year = 1843; month = 3; day = 31; hour = 16; minute = 53; secon
 abbrev last : Calendar
 last = record { year = 2096; month = 10; day = 2; hour = 7; minute = 6; second = 40; nanosecond = 0 }
 
--- they are answered; the first less one leap second is beyond check 4, and so is the last less one below zero
+-- they are answered; the first less one leap second is beyond check 4, and so is the last less −1
 pub ends : (instantAnswer first (pos 0) ≡ At (record { 0 = negsuc 3999999999999999999 }))
     × (instantAnswer last (pos 0) ≡ At (record { 0 = pos 4000000000000000000 }))
     × (instantAnswer first (pos 1) ≡ Beyond) × (instantAnswer last (negsuc 0) ≡ Beyond)

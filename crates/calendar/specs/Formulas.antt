@@ -3,9 +3,9 @@ use Prim.Native.Nat.{ℕ, _+_, _*_, _-_, _/_, _≤_, _<_}
 use mathlib.Core.Bool.{Bool, true, false, cond}
 use lib.Dec.{ltb, leb}
 use lib.IntN.{ℤ, pos, natAbs, _-ℤ_}
-use Rattle.common.specs.Time.{second}
+use Rattle.common.specs.Time.{second as nanosecondsInSecond}
 use Rattle.calendar.specs.declared.gregorian.Calendar.{Calendar}
-use Rattle.calendar.specs.Gregorian.{leap, daysOfMonth, lastYear, hours, minutes, seconds}
+use Rattle.calendar.specs.Gregorian.{leap, daysOfMonth, lastYear, monthsInYear, hoursInDay, minutesInHour, secondsInMinute}
 use Rattle.calendar.specs.Instants.{secondNumber, epoch}
 
 -- what holds of a date that there is
@@ -13,16 +13,16 @@ pub record RealDate (c : Calendar) : Type 0 where
   pub year-from : 1 ≤ c .year
   pub year-to : c .year ≤ lastYear
   pub month-from : 1 ≤ c .month
-  pub month-to : c .month ≤ 12
+  pub month-to : c .month ≤ monthsInYear
   pub day-from : 1 ≤ c .day
   pub day-to : c .day ≤ daysOfMonth (leap (c .year)) (c .month)
 
 -- what holds of a time of day that there is
 pub record RealTime (c : Calendar) : Type 0 where
-  pub hour-to : c .hour < hours
-  pub minute-to : c .minute < minutes
-  pub second-to : c .second < seconds
-  pub nanosecond-to : c .nanosecond < second
+  pub hour-to : c .hour < hoursInDay
+  pub minute-to : c .minute < minutesInHour
+  pub second-to : c .second < secondsInMinute
+  pub nanosecond-to : c .nanosecond < nanosecondsInSecond
 
 -- what holds of a date and time that there is
 pub record Real (c : Calendar) : Type 0 where

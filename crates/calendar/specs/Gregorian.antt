@@ -4,7 +4,7 @@ use mathlib.Core.Bool.{Bool, true, false, not, _&&_, _||_}
 use mathlib.Core.List.{List, [], _∷_}
 use lib.Dec.{leb, ltb, eqb}
 use lib.ListN.{take, getD}
-use Rattle.common.specs.Time.{second}
+use Rattle.common.specs.Time.{second as nanosecondsInSecond}
 use Rattle.calendar.specs.declared.gregorian.Calendar.{Calendar}
 
 -- whether k divides n
@@ -50,17 +50,21 @@ dayNumber c = daysOfYears (c .year - 1) + (daysBefore (leap (c .year)) (c .month
 abbrev pub lastYear : ℕ
 lastYear = 9999
 
+-- months in a year
+abbrev pub monthsInYear : ℕ
+monthsInYear = 12
+
 -- hours in a day
-abbrev pub hours : ℕ
-hours = 24
+abbrev pub hoursInDay : ℕ
+hoursInDay = 24
 
 -- minutes in an hour
-abbrev pub minutes : ℕ
-minutes = 60
+abbrev pub minutesInHour : ℕ
+minutesInHour = 60
 
 -- seconds in a minute: no leap second is taken
-abbrev pub seconds : ℕ
-seconds = 60
+abbrev pub secondsInMinute : ℕ
+secondsInMinute = 60
 
 -- a date that there is: "no real date and time (so with year 0 …)"
 abbrev pub realDate : Calendar → Bool
@@ -68,13 +72,17 @@ realDate c =
     leb 1 (c .year)
     && leb (c .year) lastYear
     && leb 1 (c .month)
-    && leb (c .month) 12
+    && leb (c .month) monthsInYear
     && leb 1 (c .day)
     && leb (c .day) (daysOfMonth (leap (c .year)) (c .month))
 
 -- a time of day that there is: "or a second of 60 or more" is none
 abbrev pub realTime : Calendar → Bool
-realTime c = ltb (c .hour) hours && ltb (c .minute) minutes && ltb (c .second) seconds && ltb (c .nanosecond) second
+realTime c =
+    ltb (c .hour) hoursInDay
+    && ltb (c .minute) minutesInHour
+    && ltb (c .second) secondsInMinute
+    && ltb (c .nanosecond) nanosecondsInSecond
 
 -- a date and time that there is
 abbrev pub real : Calendar → Bool

@@ -2,20 +2,20 @@
 use Prim.Native.Nat.{ℕ, _+_, _*_}
 use mathlib.Core.Bool.{cond}
 use lib.IntN.{ℤ, pos, _-ℤ_, _*ℤ_}
-use Rattle.common.specs.Time.{second}
+use Rattle.common.specs.Time.{second as nanosecondsInSecond}
 use Rattle.checks.specs.Checks.{beyond}
 use Rattle.calendar.specs.declared.gregorian.Calendar.{Calendar}
 use Rattle.calendar.specs.declared.instants.Instant.{Instant}
 use Rattle.calendar.specs.declared.instants.Instant.the-variants.{At, Unreal, Beyond}
-use Rattle.calendar.specs.Gregorian.{hours, minutes, seconds, dayNumber, real}
+use Rattle.calendar.specs.Gregorian.{hoursInDay, minutesInHour, secondsInMinute, dayNumber, real}
 
 -- the seconds from 0001-01-01 00:00:00, without leap seconds
 abbrev pub secondNumber : Calendar → ℕ
-secondNumber c = seconds * (minutes * (hours * dayNumber c + c .hour) + c .minute) + c .second
+secondNumber c = secondsInMinute * (minutesInHour * (hoursInDay * dayNumber c + c .hour) + c .minute) + c .second
 
 -- the nanoseconds from then
 abbrev pub nanosecondNumber : Calendar → ℕ
-nanosecondNumber c = second * secondNumber c + c .nanosecond
+nanosecondNumber c = nanosecondsInSecond * secondNumber c + c .nanosecond
 
 -- 1970-01-01 00:00:00, where instants are counted from
 abbrev pub epoch : Calendar
@@ -27,7 +27,7 @@ instantOf c = pos (nanosecondNumber c) -ℤ pos (nanosecondNumber epoch)
 
 -- "lessened by a count of leap seconds"
 abbrev pub lessened : ℤ → ℤ → ℤ
-lessened t leaps = t -ℤ leaps *ℤ pos second
+lessened t leaps = t -ℤ leaps *ℤ pos nanosecondsInSecond
 
 -- an instant, if it is within check 4
 abbrev pub within : ℤ → Instant

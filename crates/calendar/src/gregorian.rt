@@ -17,6 +17,21 @@ pub struct Calendar {
 // The last year of four digits.
 const LAST_YEAR: u16 = 9999;
 
+// Months in a year.
+const MONTHS_IN_YEAR: u8 = 12;
+
+// Hours in a day.
+pub(crate) const HOURS_IN_DAY: u8 = 24;
+
+// Minutes in an hour.
+pub(crate) const MINUTES_IN_HOUR: u8 = 60;
+
+// Seconds in a minute.
+pub(crate) const SECONDS_IN_MINUTE: u8 = 60;
+
+// Nanoseconds in a second.
+const NANOSECONDS_IN_SECOND: u32 = 1_000_000_000;
+
 // Whether a year is a leap year.
 pub(crate) fn is_leap(year: u16) -> bool
     ensures { λ r. ⌜ r ≡ leap year ⌝ }
@@ -55,7 +70,7 @@ fn is_date(c: Calendar) -> bool
     if c.month < 1 {
         return false;
     }
-    if c.month > 12 {
+    if c.month > MONTHS_IN_YEAR {
         return false;
     }
     if c.day < 1 {
@@ -68,16 +83,16 @@ fn is_date(c: Calendar) -> bool
 fn is_time(c: Calendar) -> bool
     ensures { λ r. ⌜ r ≡ realTime c ⌝ }
 {
-    if c.hour >= 24 {
+    if c.hour >= HOURS_IN_DAY {
         return false;
     }
-    if c.minute >= 60 {
+    if c.minute >= MINUTES_IN_HOUR {
         return false;
     }
-    if c.second >= 60 {
+    if c.second >= SECONDS_IN_MINUTE {
         return false;
     }
-    c.nanosecond < 1_000_000_000
+    c.nanosecond < NANOSECONDS_IN_SECOND
 }
 
 // Whether there is such a date and time.

@@ -1,6 +1,9 @@
 // From a date and time to its instant.
 use crate::days::day_number;
 use crate::gregorian::Calendar;
+use crate::gregorian::HOURS_IN_DAY;
+use crate::gregorian::MINUTES_IN_HOUR;
+use crate::gregorian::SECONDS_IN_MINUTE;
 use crate::gregorian::is_real;
 use units::LeapSeconds;
 use units::Nanoseconds;
@@ -30,8 +33,9 @@ fn second_number(c: Calendar) -> u64
     requires { ⌜ Real c ⌝ }
     ensures { λ r. ⌜ r ≡ secondNumber c ⌝ }
 {
-    let hours = 24 * (day_number(c) as u64) + c.hour as u64;
-    60 * (60 * hours + c.minute as u64) + c.second as u64
+    let hours = HOURS_IN_DAY as u64 * day_number(c) as u64 + c.hour as u64;
+    let minutes = MINUTES_IN_HOUR as u64 * hours + c.minute as u64;
+    SECONDS_IN_MINUTE as u64 * minutes + c.second as u64
 }
 
 // The seconds from 1970-01-01 00:00:00, less leap seconds.

@@ -12,7 +12,7 @@ use lib.Seq.{length-take-le}
 use borrow.Author.Tests.{leb-true}
 use Rattle.decimal.specs.declared.reading.Number.{Number}
 use Rattle.decimal.specs.declared.reading.Field.{Field}
-use Rattle.decimal.specs.declared.reading.Field.the-variants.{Holds, Other}
+use Rattle.decimal.specs.declared.reading.Field.the-variants.{Holds, NoNumber}
 use Rattle.decimal.specs.Reading.{isDigit, afterBlanks, digitsBehind, someDigits, signedDigits, withDecimals, mostColumns, wholeOf, decimalOf}
 
 -- one digit more
@@ -25,13 +25,13 @@ ten-mono k j h = pow-le-pow-right {n = 10} (lit< tt) h
 -- a number below m, if it is one
 abbrev below : ℕ → Field → Bool
 below m (Holds n) = ltb (n .digits) m
-below m Other = true
+below m NoNumber = true
 
 wider : (k j : ℕ) (f : Field) → k ≤ j → T (below (10 ^ k) f) → T (below (10 ^ j) f)
 wider k j (Holds n) h l = lt→ltb (n .digits) (10 ^ j) (lt-of-lt-of-le (ltb→lt (n .digits) (10 ^ k) l) (ten-mono k j h))
-wider k j Other h l = tt
+wider k j NoNumber h l = tt
 
-by-test : (m : ℕ) (f : Field) (y : Bool) → (y ≡ true → T (below m f)) → T (below m (cond y f Other))
+by-test : (m : ℕ) (f : Field) (y : Bool) → (y ≡ true → T (below m f)) → T (below m (cond y f NoNumber))
 by-test m f true h = h refl
 by-test m f false h = tt
 
@@ -87,7 +87,7 @@ whole-small t signed n e = held (10 ^ length t) (wholeOf signed t) n e (whole-be
 
 decimals-below : (f : Field) (t : List ℕ) (k j : ℕ) → T (below (10 ^ k) f) → k + length t ≡ suc j → T (below (10 ^ j) (withDecimals f t))
 unfolding withDecimals
-decimals-below Other t k j h e = tt
+decimals-below NoNumber t k j h e = tt
 decimals-below (Holds n) [] k j h e = tt
 decimals-below (Holds n) (b ∷ t) k j h e = by-test (10 ^ j) (digitsBehind (n .negative) (n .digits) t) (eqb b 46) (λ f. digits-below t (n .negative) (n .digits) k j (ltb→lt (n .digits) (10 ^ k) h) (omega arith))
 

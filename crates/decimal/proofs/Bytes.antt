@@ -10,7 +10,7 @@ use lib.ListN.{length, getD, drop, drop-of-length-le}
 use lib.Seq.{drop-cons}
 use borrow.Author.Tests.{le-leb, lt-leb, eq-eqb, ne-eqb}
 use Rattle.decimal.specs.declared.reading.Field.{Field}
-use Rattle.decimal.specs.declared.reading.Field.the-variants.{Holds, Other}
+use Rattle.decimal.specs.declared.reading.Field.the-variants.{Holds, NoNumber}
 use Rattle.decimal.specs.Reading.{isDigit, afterBlanks, digitsBehind, someDigits, signedDigits, withDecimals}
 
 -- ---- tests on a byte
@@ -53,17 +53,17 @@ module _ (t : List ℕ) (i : ℕ) where
     abbrev further : Field
     further = digitsBehind s (n * 10 + (here - 48)) (drop (i + 1) t)
 
-    by-digit : (y : Bool) → i < length t → isDigit here ≡ y → digitsBehind s n (drop i t) ≡ cond y further Other
+    by-digit : (y : Bool) → i < length t → isDigit here ≡ y → digitsBehind s n (drop i t) ≡ cond y further NoNumber
     unfolding digitsBehind
-    by-digit y h e = ap (digitsBehind s n) (next h) ∙ ap (λ (z : Bool). cond z further Other) e
+    by-digit y h e = ap (digitsBehind s n) (next h) ∙ ap (λ (z : Bool). cond z further NoNumber) e
 
     pub digit-first : i < length t → 48 ≤ here → here ≤ 57 → further ≡ digitsBehind s n (drop i t)
     digit-first h p q = sym (by-digit true h (digit-yes here p q))
 
-    pub digit-below : i < length t → here < 48 → Other ≡ digitsBehind s n (drop i t)
+    pub digit-below : i < length t → here < 48 → NoNumber ≡ digitsBehind s n (drop i t)
     digit-below h e = sym (by-digit false h (digit-low here e))
 
-    pub digit-above : i < length t → 57 < here → Other ≡ digitsBehind s n (drop i t)
+    pub digit-above : i < length t → 57 < here → NoNumber ≡ digitsBehind s n (drop i t)
     digit-above h e = sym (by-digit false h (digit-high here e))
 
     pub digit-end : length t ≤ i → Holds (record { negative = s; digits = n }) ≡ digitsBehind s n (drop i t)
@@ -71,14 +71,14 @@ module _ (t : List ℕ) (i : ℕ) where
     digit-end h = sym (ap (digitsBehind s n) (none h))
 
     -- ---- the point, behind a number
-    by-point : (y : Bool) → i < length t → eqb here 46 ≡ y → withDecimals (Holds (record { negative = s; digits = n })) (drop i t) ≡ cond y (digitsBehind s n (drop (i + 1) t)) Other
+    by-point : (y : Bool) → i < length t → eqb here 46 ≡ y → withDecimals (Holds (record { negative = s; digits = n })) (drop i t) ≡ cond y (digitsBehind s n (drop (i + 1) t)) NoNumber
     unfolding withDecimals
-    by-point y h e = ap (withDecimals (Holds (record { negative = s; digits = n }))) (next h) ∙ ap (λ (z : Bool). cond z (digitsBehind s n (drop (i + 1) t)) Other) e
+    by-point y h e = ap (withDecimals (Holds (record { negative = s; digits = n }))) (next h) ∙ ap (λ (z : Bool). cond z (digitsBehind s n (drop (i + 1) t)) NoNumber) e
 
     pub point-first : i < length t → here ≡ 46 → withDecimals (Holds (record { negative = s; digits = n })) (drop i t) ≡ digitsBehind s n (drop (i + 1) t)
     point-first h e = by-point true h (eq-eqb here 46 e)
 
-    pub point-not : i < length t → (here ≡ 46 → ⊥) → withDecimals (Holds (record { negative = s; digits = n })) (drop i t) ≡ Other
+    pub point-not : i < length t → (here ≡ 46 → ⊥) → withDecimals (Holds (record { negative = s; digits = n })) (drop i t) ≡ NoNumber
     point-not h e = by-point false h (ne-eqb here 46 e)
 
   -- ---- one digit or more, perhaps behind a minus
@@ -86,11 +86,11 @@ module _ (t : List ℕ) (i : ℕ) where
   unfolding someDigits
   some-first s h = ap (someDigits s) (next h) ∙ sym (ap (digitsBehind s 0) (next h))
 
-  pub some-none : (s : Bool) → length t ≤ i → someDigits s (drop i t) ≡ Other
+  pub some-none : (s : Bool) → length t ≤ i → someDigits s (drop i t) ≡ NoNumber
   unfolding someDigits
   some-none s h = ap (someDigits s) (none h)
 
-  pub signed-none : (signed : Bool) → length t ≤ i → signedDigits signed (drop i t) ≡ Other
+  pub signed-none : (signed : Bool) → length t ≤ i → signedDigits signed (drop i t) ≡ NoNumber
   unfolding signedDigits
   signed-none signed h = ap (signedDigits signed) (none h)
 

@@ -11,7 +11,7 @@ use lib.Seq.{take-at, length-take-le, drop-append-add}
 use borrow.Author.Tests.{le-leb, leb-true, eqb-true, ne-eqb}
 use Rattle.decimal.specs.declared.reading.Number.{Number}
 use Rattle.decimal.specs.declared.reading.Field.{Field}
-use Rattle.decimal.specs.declared.reading.Field.the-variants.{Holds, Other}
+use Rattle.decimal.specs.declared.reading.Field.the-variants.{Holds, NoNumber}
 use Rattle.decimal.specs.Reading.{isDigit, afterBlanks, digitsBehind, someDigits, signedDigits, withDecimals, mostColumns, wholeOf, decimalOf}
 use Rattle.decimal.specs.Shown.{bytes, Digits, behind, sign, Whole, Decimal}
 
@@ -25,7 +25,7 @@ unfolding digitsBehind Digits behind
 digits-read s n [] h = refl
 digits-read s n (d ∷ ds) h =
     let e : 48 + d - 48 ≡ d = omega arith in
-    ap (λ (y : Bool). cond y (digitsBehind s (n * 10 + (48 + d - 48)) (bytes ds)) Other) (digit-read d (h .0))
+    ap (λ (y : Bool). cond y (digitsBehind s (n * 10 + (48 + d - 48)) (bytes ds)) NoNumber) (digit-read d (h .0))
     ∙ ap (λ (k : ℕ). digitsBehind s (n * 10 + k) (bytes ds)) e
     ∙ digits-read s (n * 10 + d) ds (h .1)
 
@@ -55,7 +55,7 @@ pub whole-read : (signed : Bool) (t : List ℕ) (n : Number) → Whole signed t 
 whole-read signed t n w h =
     let u = sign (n .negative) ++ bytes (w .first ∷ w .others) in
     let r = signed-read signed (n .negative) (w .first) (w .others) (w .digits) (w .allowed) in
-    ap (λ (y : Bool). cond y (signedDigits signed (afterBlanks t)) Other) (le-leb (length t) mostColumns h)
+    ap (λ (y : Bool). cond y (signedDigits signed (afterBlanks t)) NoNumber) (le-leb (length t) mostColumns h)
     ∙ ap (λ (x : List ℕ). signedDigits signed (afterBlanks x)) (w .text)
     ∙ ap (signedDigits signed) (blanks-read (w .blanks) u (r .0))
     ∙ r .1
@@ -66,13 +66,13 @@ whole-read signed t n w h =
 -- the number of a field, and whether it holds one
 abbrev number : Field → Number
 number (Holds n) = n
-number Other = record { negative = false; digits = 0 }
+number NoNumber = record { negative = false; digits = 0 }
 
 abbrev holds : Field → Bool
 holds (Holds n) = true
-holds Other = false
+holds NoNumber = false
 
-none : {A : Type 0} (n : Number) → Other ≡ Holds n → A
+none : {A : Type 0} (n : Number) → NoNumber ≡ Holds n → A
 none n e = absurd (false≢true (ap holds e))
 
 digit-bounds : (b : ℕ) → isDigit b ≡ true → (48 ≤ b) × (b ≤ 57)
@@ -96,7 +96,7 @@ digits-written s n [] m e = record { ds = []; are = tt; text = refl; number-is =
 digits-written s n (b ∷ t) m e = go (isDigit b) refl (digits-written s (n * 10 + (b - 48)) t m) e
   where
     go : (y : Bool) → isDigit b ≡ y → (digitsBehind s (n * 10 + (b - 48)) t ≡ Holds m → Written s (n * 10 + (b - 48)) t m)
-        → cond y (digitsBehind s (n * 10 + (b - 48)) t) Other ≡ Holds m → Written s n (b ∷ t) m
+        → cond y (digitsBehind s (n * 10 + (b - 48)) t) NoNumber ≡ Holds m → Written s n (b ∷ t) m
     go true f rest g =
         let w = rest g in
         let k = digit-bounds b f in
@@ -160,7 +160,7 @@ blanks-written (b ∷ t) = go (eqb b 32) refl (blanks-written t)
     go false e w = (0, refl)
 
 -- a test that must hold, and what it chose
-chosen : (y : Bool) (f : Field) (n : Number) → cond y f Other ≡ Holds n → f ≡ Holds n
+chosen : (y : Bool) (f : Field) (n : Number) → cond y f NoNumber ≡ Holds n → f ≡ Holds n
 chosen true f n e = e
 chosen false f n e = none n e
 
@@ -189,7 +189,7 @@ decimal-read signed at t n w h =
     let p : take at t ≡ w .ahead = ap (take at) (w .text) ∙ take-at (w .ahead) rest at (w .place) in
     let z : at ≡ length (w .ahead) + 0 = omega (arith, w .place) in
     let q : drop at t ≡ rest = ap (drop at) (w .text) ∙ ap (λ (k : ℕ). drop k (w .ahead ++ rest)) z ∙ drop-append-add (w .ahead) rest 0 in
-    ap (λ (y : Bool). cond y (withDecimals (wholeOf signed (take at t)) (drop at t)) Other) (le-leb (length t) mostColumns h)
+    ap (λ (y : Bool). cond y (withDecimals (wholeOf signed (take at t)) (drop at t)) NoNumber) (le-leb (length t) mostColumns h)
     ∙ ap (λ (x : List ℕ). withDecimals (wholeOf signed x) (drop at t)) p
     ∙ ap (λ (f : Field). withDecimals f (drop at t)) (whole-read signed (w .ahead) (w .whole) (w .shows) (omega (arith, l, h)))
     ∙ ap (withDecimals (Holds (w .whole))) q
@@ -203,11 +203,11 @@ decimal-written signed at t n e =
     go (wholeOf signed (take at t)) (drop at t) refl refl (chosen (leb (length t) mostColumns) (withDecimals (wholeOf signed (take at t)) (drop at t)) n e)
   where
     go : (f : Field) (r : List ℕ) → wholeOf signed (take at t) ≡ f → drop at t ≡ r → withDecimals f r ≡ Holds n → Decimal signed at t n
-    go Other r p q g = none n g
+    go NoNumber r p q g = none n g
     go (Holds m) [] p q g = none n g
     go (Holds m) (b ∷ r) p q g = by-point (eqb b 46) refl g
       where
-        by-point : (y : Bool) → eqb b 46 ≡ y → cond y (digitsBehind (m .negative) (m .digits) r) Other ≡ Holds n → Decimal signed at t n
+        by-point : (y : Bool) → eqb b 46 ≡ y → cond y (digitsBehind (m .negative) (m .digits) r) NoNumber ≡ Holds n → Decimal signed at t n
         by-point true f g =
             let w = digits-written (m .negative) (m .digits) r n g in
             record {

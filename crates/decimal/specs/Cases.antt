@@ -4,7 +4,7 @@ use mathlib.Core.Path.{_≡_, refl}
 use mathlib.Core.Bool.{Bool, true, false}
 use Rattle.common.specs.Text.{text}
 use Rattle.decimal.specs.declared.reading.Field.{Field}
-use Rattle.decimal.specs.declared.reading.Field.the-variants.{Holds, Other}
+use Rattle.decimal.specs.declared.reading.Field.the-variants.{Holds, NoNumber}
 use Rattle.decimal.specs.Reading.{afterBlanks, digitsBehind, someDigits, signedDigits, withDecimals, wholeOf, decimalOf}
 
 -- a number with its sign
@@ -18,9 +18,9 @@ unfolding afterBlanks digitsBehind someDigits signedDigits
 wholes = (refl, refl, refl, refl, refl)
 
 -- blanks alone, a minus alone, a blank behind the minus, a blank behind the digits, a plus, a minus where none may stand, 19 columns
-pub noWholes : (wholeOf true (text "  ") ≡ Other) × (wholeOf true (text " -") ≡ Other) × (wholeOf true (text "- 7") ≡ Other)
-    × (wholeOf true (text "7 ") ≡ Other) × (wholeOf true (text "+7") ≡ Other) × (wholeOf false (text "-7") ≡ Other)
-    × (wholeOf false (text "                  1") ≡ Other)
+pub noWholes : (wholeOf true (text "  ") ≡ NoNumber) × (wholeOf true (text " -") ≡ NoNumber) × (wholeOf true (text "- 7") ≡ NoNumber)
+    × (wholeOf true (text "7 ") ≡ NoNumber) × (wholeOf true (text "+7") ≡ NoNumber) × (wholeOf false (text "-7") ≡ NoNumber)
+    × (wholeOf false (text "                  1") ≡ NoNumber)
 unfolding afterBlanks digitsBehind someDigits signedDigits
 noWholes = (refl, refl, refl, refl, refl, refl, refl)
 
@@ -30,7 +30,7 @@ unfolding afterBlanks digitsBehind someDigits signedDigits withDecimals
 decimals = (refl, refl)
 
 -- no digit before the point, the point a column early, a blank for a decimal, no point at all
-pub noDecimals : (decimalOf true 4 (text "    .250") ≡ Other) × (decimalOf true 4 (text "  7.2500") ≡ Other)
-    × (decimalOf true 4 (text "   7.25 ") ≡ Other) × (decimalOf true 4 (text "   7") ≡ Other)
+pub noDecimals : (decimalOf true 4 (text "    .250") ≡ NoNumber) × (decimalOf true 4 (text "  7.2500") ≡ NoNumber)
+    × (decimalOf true 4 (text "   7.25 ") ≡ NoNumber) × (decimalOf true 4 (text "   7") ≡ NoNumber)
 unfolding afterBlanks digitsBehind someDigits signedDigits withDecimals
 noDecimals = (refl, refl, refl, refl)

@@ -13,10 +13,10 @@ pub struct Number {
 // What stands in some columns: a number, or something else.
 pub enum Field {
     Holds(Number),
-    Other,
+    NoNumber,
 }
 
-// More columns than this hold no number: 64 bits have room for 18 digits.
+// More columns than this hold no number: any 18 digits fit 64 bits, with their sign too.
 const MOST_COLUMNS: usize = 18;
 
 // The place of the first byte that is no blank, or the end.
@@ -43,10 +43,10 @@ fn digits_behind(text: &[u8], from: usize, before: Number) -> Field
     while i < text.len() {
         let b = text[i];
         if b < b'0' {
-            return Field::Other;
+            return Field::NoNumber;
         }
         if b > b'9' {
-            return Field::Other;
+            return Field::NoNumber;
         }
         n = n * 10 + (b - b'0') as u64;
         i += 1;
@@ -63,7 +63,7 @@ fn some_digits(text: &[u8], from: usize, negative: bool) -> Field
     ensures { λ r. ⌜ r ≡ someDigits negative (drop from (now (text .entry))) ⌝ }
 {
     if from == text.len() {
-        return Field::Other;
+        return Field::NoNumber;
     }
     let nothing = Number {
         negative,
@@ -78,7 +78,7 @@ fn signed_digits(text: &[u8], from: usize, signed: bool) -> Field
     ensures { λ r. ⌜ r ≡ signedDigits signed (drop from (now (text .entry))) ⌝ }
 {
     if from == text.len() {
-        return Field::Other;
+        return Field::NoNumber;
     }
     if signed {
         if text[from] == b'-' {
@@ -93,7 +93,7 @@ pub fn whole_of(text: &[u8], signed: bool) -> Field
     ensures { λ r. ⌜ r ≡ wholeOf signed (now (text .entry)) ⌝ }
 {
     if text.len() > MOST_COLUMNS {
-        return Field::Other;
+        return Field::NoNumber;
     }
     let from = skip_blanks(text);
     signed_digits(text, from, signed)
@@ -104,19 +104,19 @@ pub fn decimal_of(text: &[u8], point: usize, signed: bool) -> Field
     ensures { λ r. ⌜ r ≡ decimalOf signed point (now (text .entry)) ⌝ }
 {
     if text.len() > MOST_COLUMNS {
-        return Field::Other;
+        return Field::NoNumber;
     }
     if point >= text.len() {
-        return Field::Other;
+        return Field::NoNumber;
     }
     let whole = whole_of(&text[..point], signed);
     match whole {
         Field::Holds(n) => {
             if text[point] != b'.' {
-                return Field::Other;
+                return Field::NoNumber;
             }
             digits_behind(text, point + 1, n)
         }
-        Field::Other => Field::Other,
+        Field::NoNumber => Field::NoNumber,
     }
 }

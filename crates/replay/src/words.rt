@@ -119,7 +119,7 @@ pub(crate) fn observer(words: [f64; 10]) -> Observer {
     }
 }
 
-// The bytes of the first slice, eight in each word, the first one lowest.
+// The bytes of an orbit file from word 1 on, eight in each word, the first one lowest; what lies behind its end is anything.
 pub(crate) fn bytes_of(wholes: &Wholes) -> [u8; FILE] {
     let mut bytes = [0u8; FILE];
     let mut word: u64 = 0;

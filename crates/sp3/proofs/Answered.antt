@@ -19,7 +19,7 @@ use Rattle.sp3.specs.Columns.{lineOf}
 use Rattle.sp3.specs.Records.{body, faulty, kept}
 use Rattle.checks.specs.Limits.{axes}
 use Rattle.checks.specs.Entries.{firstFailing}
-use Rattle.sp3.specs.Entries.{said, missing, unknown, unfit, recordsOf, sp3Refusal}
+use Rattle.sp3.specs.Entries.{said, isMissing, isOther, unfit, recordsOf, sp3Refusal}
 use Rattle.sp3.specs.Walks.{saidFrom, lookedAt, refusalOf, countOf}
 
 -- ---- the refusal by what the look found
@@ -29,9 +29,9 @@ module _ (sys : TimeSystem) (S : List Line) (is : List ℤ) (ps : List Float) wh
   count = length (kept (pos 0) S)
 
   abbrev later : ℕ
-  later = cond (unknown sys) 12 (cond (unfit count is ps) 13 0)
+  later = cond (isOther sys) 12 (cond (unfit count is ps) 13 0)
 
-  by-faulty : (f : Bool) → refusalOf sys (cond f Undescribed (Found count)) is ps ≡ cond f 11 (cond (missing sys) 11 later)
+  by-faulty : (f : Bool) → refusalOf sys (cond f Undescribed (Found count)) is ps ≡ cond f 11 (cond (isMissing sys) 11 later)
   by-faulty true = refl
   by-faulty false = refl
 
@@ -41,8 +41,8 @@ module _ (sys : TimeSystem) (S : List Line) (is : List ℤ) (ps : List Float) wh
   in-order false true r = refl
   in-order false false r = refl
 
-  pub by-look : refusalOf sys (lookedAt S) is ps ≡ cond (missing sys || faulty S) 11 later
-  by-look = by-faulty (faulty S) ∙ in-order (missing sys) (faulty S) later
+  pub by-look : refusalOf sys (lookedAt S) is ps ≡ cond (isMissing sys || faulty S) 11 later
+  by-look = by-faulty (faulty S) ∙ in-order (isMissing sys) (faulty S) later
 
   fit : (n : ℕ) (b : Bool) → unfit n is ps ≡ b → _≡_ {A = ℕ} (cond b 13 0) 0 → (n ≤ length is) × (axes * n ≤ length ps)
   fit n true e z = absurd (omega arith)
@@ -56,7 +56,7 @@ module _ (sys : TimeSystem) (S : List Line) (is : List ℤ) (ps : List Float) wh
 
   -- no refusal: the areas have room, and the number found is that of the records kept
   pub passed : refusalOf sys (lookedAt S) is ps ≡ 0 → (count ≤ length is) × (axes * count ≤ length ps) × (countOf (lookedAt S) ≡ count)
-  passed z = go (faulty S) (missing sys) (unknown sys) (sym (by-faulty (faulty S)) ∙ z)
+  passed z = go (faulty S) (isMissing sys) (isOther sys) (sym (by-faulty (faulty S)) ∙ z)
     where
       go : (f m u : Bool) → _≡_ {A = ℕ} (cond f 11 (cond m 11 (cond u 12 (cond (unfit count is ps) 13 0)))) 0
           → (count ≤ length is) × (axes * count ≤ length ps) × (countOf (cond f Undescribed (Found count)) ≡ count)
@@ -68,12 +68,12 @@ module _ (sys : TimeSystem) (S : List Line) (is : List ℤ) (ps : List Float) wh
 -- ---- of a file
 by-header : (bs sat : List ℕ) (leaps : LeapSeconds) (is : List ℤ) (ps : List Float) (h : Bool) → headed beginnings (lines bs) ≡ h
     → (let sys = systemOf leaps (lines bs) in let S = said sys sat (lines bs) in
-    sp3Refusal bs sat leaps is ps ≡ cond (not h || missing sys || faulty S) 11 (later sys S is ps))
+    sp3Refusal bs sat leaps is ps ≡ cond (not h || isMissing sys || faulty S) 11 (later sys S is ps))
 unfolding firstFailing
 by-header bs sat leaps is ps h e =
     let sys = systemOf leaps (lines bs) in
     let S = said sys sat (lines bs) in
-    ap (λ (y : Bool). cond (not y || missing sys || faulty S) 11 (later sys S is ps)) e
+    ap (λ (y : Bool). cond (not y || isMissing sys || faulty S) 11 (later sys S is ps)) e
 
 pub not-headed : (bs sat : List ℕ) (leaps : LeapSeconds) (is : List ℤ) (ps : List Float) → headed beginnings (lines bs) ≡ false → 11 ≡ sp3Refusal bs sat leaps is ps
 not-headed bs sat leaps is ps e = sym (by-header bs sat leaps is ps false e)

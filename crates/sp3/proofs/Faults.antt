@@ -5,19 +5,19 @@ use mathlib.Core.Bool.{Bool, true, false, _||_}
 use mathlib.Core.List.{List, [], _∷_}
 use Rattle.checks.specs.Checks.{any}
 use Rattle.sp3.specs.declared.line.Line.{Line}
-use Rattle.sp3.specs.declared.line.Line.the-variants.{Epoch, Place, Absent, Wrong, Passed}
+use Rattle.sp3.specs.declared.line.Line.the-variants.{Epoch, Place, Absent, Wrong, PassedOver}
 use Rattle.sp3.specs.Records.{isWrong, untimed, faulty}
-use Rattle.sp3.specs.Walks.{anyMisplaced}
+use Rattle.sp3.specs.Walks.{anyFaultFrom}
 
 -- behind an epoch line
-timed : (L : List Line) → anyMisplaced true L ≡ any isWrong L
-unfolding anyMisplaced any
+timed : (L : List Line) → anyFaultFrom true L ≡ any isWrong L
+unfolding anyFaultFrom any
 timed [] = refl
 timed (Epoch t ∷ L) = timed L
 timed (Place p ∷ L) = timed L
 timed (Absent ∷ L) = timed L
 timed (Wrong ∷ L) = refl
-timed (Passed ∷ L) = timed L
+timed (PassedOver ∷ L) = timed L
 
 pub or-right : (b : Bool) → b || true ≡ true
 or-right true = refl
@@ -27,11 +27,11 @@ or-none : (b : Bool) → b || false ≡ b
 or-none true = refl
 or-none false = refl
 
-pub faults : (L : List Line) → anyMisplaced false L ≡ faulty L
-unfolding anyMisplaced any untimed
+pub faults : (L : List Line) → anyFaultFrom false L ≡ faulty L
+unfolding anyFaultFrom any untimed
 faults [] = refl
 faults (Epoch t ∷ L) = timed L ∙ sym (or-none (any isWrong L))
 faults (Place p ∷ L) = sym (or-right (any isWrong L))
 faults (Absent ∷ L) = sym (or-right (any isWrong L))
 faults (Wrong ∷ L) = refl
-faults (Passed ∷ L) = faults L
+faults (PassedOver ∷ L) = faults L

@@ -9,7 +9,7 @@ use lib.ListN.{length, getD, drop, length-drop}
 use lib.Seq.{take-all}
 use borrow.Author.Tests.{eq-eqb, ne-eqb, lt-ltb, le-ltb}
 use Rattle.units.specs.declared.LeapSeconds.{LeapSeconds}
-use Rattle.sp3.specs.declared.line.Line.the-variants.{Passed}
+use Rattle.sp3.specs.declared.line.Line.the-variants.{PassedOver}
 use Rattle.sp3.specs.declared.header.TimeSystem.{TimeSystem}
 use Rattle.sp3.specs.declared.header.TimeSystem.the-variants.{Less, Other, Missing}
 use Rattle.common.specs.Text.{text}
@@ -23,26 +23,26 @@ pub tail : (k : ℕ) (l : List ℕ) → part k (length l) l ≡ drop k l
 tail k l = take-all (length l - k) (drop k l) (omega (arith, length-drop k l))
 
 module _ (sys : TimeSystem) (sat : List ℕ) where
-  pub empty-line : (l : List ℕ) → length l ≡ 0 → Passed ≡ lineOf sys sat l
+  pub empty-line : (l : List ℕ) → length l ≡ 0 → PassedOver ≡ lineOf sys sat l
   unfolding lineOf begins
   empty-line [] h = refl
   empty-line (b ∷ l) h = absurd (omega arith)
 
-  by-first : (b : ℕ) (l : List ℕ) (u v : Bool) → eqb b 42 ≡ u → eqb b 80 ≡ v → lineOf sys sat (b ∷ l) ≡ cond (u && true) (epochIn sys (b ∷ l)) (cond (v && begins sat l) (placeIn (b ∷ l)) Passed)
+  by-first : (b : ℕ) (l : List ℕ) (u v : Bool) → eqb b 42 ≡ u → eqb b 80 ≡ v → lineOf sys sat (b ∷ l) ≡ cond (u && true) (epochIn sys (b ∷ l)) (cond (v && begins sat l) (placeIn (b ∷ l)) PassedOver)
   unfolding lineOf begins
   by-first b l u v e f =
-      ap (λ (w : Bool). cond (w && true) (epochIn sys (b ∷ l)) (cond (eqb b 80 && begins sat l) (placeIn (b ∷ l)) Passed)) e
-      ∙ ap (λ (w : Bool). cond (u && true) (epochIn sys (b ∷ l)) (cond (w && begins sat l) (placeIn (b ∷ l)) Passed)) f
+      ap (λ (w : Bool). cond (w && true) (epochIn sys (b ∷ l)) (cond (eqb b 80 && begins sat l) (placeIn (b ∷ l)) PassedOver)) e
+      ∙ ap (λ (w : Bool). cond (u && true) (epochIn sys (b ∷ l)) (cond (w && begins sat l) (placeIn (b ∷ l)) PassedOver)) f
 
   pub epoch-line : (l : List ℕ) → 0 < length l → getD l 0 0 ≡ 42 → epochIn sys l ≡ lineOf sys sat l
   epoch-line [] h e = absurd (omega arith)
   epoch-line (b ∷ l) h e = sym (by-first b l true (eqb b 80) (eq-eqb b 42 e) refl)
 
-  pub other-line : (l : List ℕ) → 0 < length l → (getD l 0 0 ≡ 42 → ⊥) → (getD l 0 0 ≡ 80 → ⊥) → Passed ≡ lineOf sys sat l
+  pub other-line : (l : List ℕ) → 0 < length l → (getD l 0 0 ≡ 42 → ⊥) → (getD l 0 0 ≡ 80 → ⊥) → PassedOver ≡ lineOf sys sat l
   other-line [] h e f = absurd (omega arith)
   other-line (b ∷ l) h e f = sym (by-first b l false false (ne-eqb b 42 e) (ne-eqb b 80 f))
 
-  pub place-line : (l : List ℕ) → 0 < length l → getD l 0 0 ≡ 80 → cond (begins sat (drop 1 l)) (placeIn l) Passed ≡ lineOf sys sat l
+  pub place-line : (l : List ℕ) → 0 < length l → getD l 0 0 ≡ 80 → cond (begins sat (drop 1 l)) (placeIn l) PassedOver ≡ lineOf sys sat l
   place-line [] h e = absurd (omega arith)
   place-line (b ∷ l) h e = sym (by-first b l false true (ne-eqb b 42 (λ q. (let z : _≡_ {A = ℕ} 80 42 = sym e ∙ q in omega arith))) (eq-eqb b 80 e))
 

@@ -22,11 +22,10 @@ use Rattle.float.specs.Conversions.{nearestOf}
 use Rattle.float.proofs.Integers.{neg-round}
 use Rattle.decimal.specs.declared.reading.Number.{Number}
 use Rattle.decimal.specs.declared.reading.Field.{Field}
-use Rattle.decimal.specs.declared.reading.Field.the-variants.{Holds}
-use Rattle.decimal.specs.declared.reading.Field.the-variants.{Other as NoNumber}
+use Rattle.decimal.specs.declared.reading.Field.the-variants.{Holds, NoNumber}
 use Rattle.decimal.specs.Reading.{wholeOf, decimalOf}
 use Rattle.decimal.proofs.Bounds.{whole-small, decimal-small}
-use Rattle.sp3.specs.Columns.{columns, whole, pointed, metresOf}
+use Rattle.sp3.specs.Columns.{columns, whole, pointed, coordinateEnd, metresOf}
 
 -- ---- columns
 module _ (first last : ℕ) (read : List ℕ → Field) (l : List ℕ) where
@@ -75,7 +74,7 @@ pointed-small signed first point last w l n a b e f =
     let m : length t ≡ suc w = width first last (suc w) l a (omega arith) (k .0) in
     decimal-small t signed (point - first) w n (omega arith) m (k .1)
 
-pub coordinate-small : (first point last : ℕ) (l : List ℕ) (n : Number) → 1 ≤ first → point ≤ last → last ≡ first + 13 → pointed true first point last l ≡ Holds n → n .digits < 10000000000000
+pub coordinate-small : (first point last : ℕ) (l : List ℕ) (n : Number) → 1 ≤ first → point ≤ last → last ≡ first + 13 → pointed true first point last l ≡ Holds n → n .digits < coordinateEnd
 coordinate-small first point last l n a b e f = pointed-small true first point last 13 l n a b e f
 
 -- ---- metres
@@ -91,11 +90,11 @@ divided (fin s m e) n h =
     cross : (a n d : ℕ) → a * 1 ≡ n * d → a * 1 * 1000 ≡ n * (1000 * d)
     cross a n d h = omega arith
 
-pub divided-once : (n : ℕ) → n < 10000000000000 → nearestOf (pos n) ⊘ thousand ≡ round binary64 false n 1000
+pub divided-once : (n : ℕ) → n < coordinateEnd → nearestOf (pos n) ⊘ thousand ≡ round binary64 false n 1000
 unfolding ofInt
 divided-once n h = divided (round binary64 false n 1) n (round-whole binary64 false n (omega arith))
 
-pub divided-minus : (n : ℕ) → n < 10000000000000 → neg (nearestOf (pos n) ⊘ thousand) ≡ round binary64 true n 1000
+pub divided-minus : (n : ℕ) → n < coordinateEnd → neg (nearestOf (pos n) ⊘ thousand) ≡ round binary64 true n 1000
 divided-minus n h = ap neg (divided-once n h) ∙ neg-round binary64 n 1000
 
 module _ (n : Number) where

@@ -9,7 +9,7 @@ use lib.IntN.{ℤ, pos}
 use lib.ListN.{length, drop, length-append, length-map}
 use lib.Ieee.{Float}
 use Rattle.sp3.specs.declared.line.Line.{Line}
-use Rattle.sp3.specs.declared.line.Line.the-variants.{Epoch, Place, Absent, Wrong, Passed}
+use Rattle.sp3.specs.declared.line.Line.the-variants.{Epoch, Place, Absent, Wrong, PassedOver}
 use Rattle.sp3.specs.declared.header.TimeSystem.{TimeSystem}
 use Rattle.sp3.specs.declared.records.Looked.the-variants.{Found, Undescribed}
 use Rattle.common.specs.Text.{text}
@@ -17,7 +17,7 @@ use Rattle.sp3.specs.Lines.{lines, begins}
 use Rattle.sp3.specs.Columns.{lineOf}
 use Rattle.sp3.specs.Records.{Kept, body, faulty, instantAfter, keptOf, kept, instantsOf, positionsOf}
 use Rattle.common.specs.Outcome.{written}
-use Rattle.sp3.specs.Walks.{ending, putAt, begun, misplaced, anyMisplaced, saidFrom, lookedAt}
+use Rattle.sp3.specs.Walks.{ending, putAt, begun, faultAt, anyFaultFrom, saidFrom, lookedAt}
 use Rattle.sp3.proofs.Faults.{faults}
 use Rattle.sp3.proofs.Cursor.{part, line-here, lines-none}
 use Rattle.sp3.proofs.Areas.{put-put, put-front, put-none, length-put}
@@ -48,7 +48,7 @@ one-count (Epoch v) t u = refl
 one-count (Place p) t u = refl
 one-count Absent t u = refl
 one-count Wrong t u = refl
-one-count Passed t u = refl
+one-count PassedOver t u = refl
 
 same-count : (L : List Line) (t u : ℤ) → length (kept t L) ≡ length (kept u L)
 unfolding kept
@@ -63,7 +63,7 @@ count-more l L t = omega (arith, length-append (keptOf l t) (kept (instantAfter 
 
 -- ---- the look: S is what all lines say, L what those that are left say
 pub record Looking (S L : List Line) (started : Bool) (count : ℕ) : Type 0 where
-  pub as-faulty : anyMisplaced started L ≡ faulty S
+  pub as-faulty : anyFaultFrom started L ≡ faulty S
   pub as-many : count + length (kept (pos 0) L) ≡ length (kept (pos 0) S)
 
 module _ (S : List Line) where
@@ -76,21 +76,21 @@ module _ (S : List Line) where
 
   module _ (L : List Line) (started : Bool) (count : ℕ) (k : Looking S L started count) where
     pub look-end : L ≡ [] → Found count ≡ lookedAt S
-    unfolding anyMisplaced kept
+    unfolding anyFaultFrom kept
     look-end e =
         let n : length (kept (pos 0) L) ≡ 0 = ap (λ (M : List Line). length (kept (pos 0) M)) e in
         let m : count ≡ length (kept (pos 0) S) = omega (arith, k .as-many) in
-        ap Found m ∙ sym (by-faulty false (sym (k .as-faulty) ∙ ap (anyMisplaced started) e))
+        ap Found m ∙ sym (by-faulty false (sym (k .as-faulty) ∙ ap (anyFaultFrom started) e))
 
     -- by the first line that is left
-    by-first : (l : Line) (M : List Line) (b : Bool) → L ≡ l ∷ M → misplaced l started ≡ b → faulty S ≡ cond b true (anyMisplaced (begun l started) M)
-    unfolding anyMisplaced
-    by-first l M b e f = sym (k .as-faulty) ∙ ap (anyMisplaced started) e ∙ ap (λ (y : Bool). cond y true (anyMisplaced (begun l started) M)) f
+    by-first : (l : Line) (M : List Line) (b : Bool) → L ≡ l ∷ M → faultAt l started ≡ b → faulty S ≡ cond b true (anyFaultFrom (begun l started) M)
+    unfolding anyFaultFrom
+    by-first l M b e f = sym (k .as-faulty) ∙ ap (anyFaultFrom started) e ∙ ap (λ (y : Bool). cond y true (anyFaultFrom (begun l started) M)) f
 
-    pub look-wrong : (l : Line) (M : List Line) → L ≡ l ∷ M → misplaced l started ≡ true → Undescribed ≡ lookedAt S
+    pub look-wrong : (l : Line) (M : List Line) → L ≡ l ∷ M → faultAt l started ≡ true → Undescribed ≡ lookedAt S
     look-wrong l M e f = sym (by-faulty true (by-first l M true e f))
 
-    pub look-more : (l : Line) (M : List Line) → L ≡ l ∷ M → misplaced l started ≡ false → Looking S M (begun l started) (count + length (keptOf l (pos 0)))
+    pub look-more : (l : Line) (M : List Line) → L ≡ l ∷ M → faultAt l started ≡ false → Looking S M (begun l started) (count + length (keptOf l (pos 0)))
     look-more l M e f = record {
       as-faulty = sym (by-first l M false e f);
       as-many = omega (arith, k .as-many, ap (λ (N : List Line). length (kept (pos 0) N)) e, count-more l M (pos 0), same-count M (instantAfter l (pos 0)) (pos 0));

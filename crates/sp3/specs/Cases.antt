@@ -14,7 +14,7 @@ use Rattle.checks.specs.Entries.{firstFailing}
 use Rattle.decimal.specs.Reading.{afterBlanks, digitsBehind, someDigits, signedDigits, withDecimals}
 use Rattle.calendar.specs.Gregorian.{leap, sum, daysOfYears}
 use Rattle.sp3.specs.declared.line.Line.{Line}
-use Rattle.sp3.specs.declared.line.Line.the-variants.{Wrong, Passed}
+use Rattle.sp3.specs.declared.line.Line.the-variants.{Wrong, PassedOver}
 use Rattle.sp3.specs.declared.header.TimeSystem.the-variants.{Less}
 use Rattle.common.specs.Text.{text}
 use Rattle.sp3.specs.Lines.{lineFeed, lines, begins}
@@ -23,7 +23,7 @@ use Rattle.sp3.specs.Columns.{epochIn, placeIn, lineOf}
 use Rattle.sp3.specs.Records.{Kept, body, untimed, kept}
 use Rattle.sp3.specs.Entries.{recordsOf, sp3Refusal}
 
--- an empty line counts, nothing behind the last line feed is no line, and the last line needs none
+-- an empty line counts; behind the last line feed there is no line where there are no bytes; the last line needs no line feed
 pub split : (lines (text "ab\n\nc\n") ≡ text "ab" ∷ [] ∷ text "c" ∷ []) × (lines (text "ab\n\nc") ≡ text "ab" ∷ [] ∷ text "c" ∷ [])
 unfolding lines
 split = (refl, refl)
@@ -111,6 +111,6 @@ unfolding begins lineOf epochIn placeIn afterBlanks digitsBehind someDigits sign
 wrong = (refl, refl, refl, refl, refl, refl, refl)
 
 -- a P line too short for a satellite, another satellite's, an empty line, and a correlation line
-pub passed : (ofG05 "PG0" ≡ Passed) × (ofG05 "PG06 *" ≡ Passed) × (ofG05 "" ≡ Passed) × (ofG05 "EPG05" ≡ Passed)
+pub passed : (ofG05 "PG0" ≡ PassedOver) × (ofG05 "PG06 *" ≡ PassedOver) × (ofG05 "" ≡ PassedOver) × (ofG05 "EPG05" ≡ PassedOver)
 unfolding begins lineOf
 passed = (refl, refl, refl, refl)

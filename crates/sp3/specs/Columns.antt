@@ -9,8 +9,7 @@ use lib.Ieee.{Float, binary64, round}
 use Rattle.common.specs.Numbers.{nought}
 use Rattle.decimal.specs.declared.reading.Number.{Number}
 use Rattle.decimal.specs.declared.reading.Field.{Field}
-use Rattle.decimal.specs.declared.reading.Field.the-variants.{Holds}
-use Rattle.decimal.specs.declared.reading.Field.the-variants.{Other as NoNumber}
+use Rattle.decimal.specs.declared.reading.Field.the-variants.{Holds, NoNumber}
 use Rattle.decimal.specs.Reading.{wholeOf, decimalOf}
 use Rattle.calendar.specs.declared.gregorian.Calendar.{Calendar}
 use Rattle.calendar.specs.declared.instants.Instant.{Instant}
@@ -18,7 +17,7 @@ use Rattle.calendar.specs.declared.instants.Instant.the-variants.{At, Unreal, B
 use Rattle.calendar.specs.Gregorian.{real}
 use Rattle.calendar.specs.Instants.{instantAnswer}
 use Rattle.sp3.specs.declared.line.Line.{Line}
-use Rattle.sp3.specs.declared.line.Line.the-variants.{Epoch, Place, Absent, Wrong, Passed}
+use Rattle.sp3.specs.declared.line.Line.the-variants.{Epoch, Place, Absent, Wrong, PassedOver}
 use Rattle.sp3.specs.declared.header.TimeSystem.{TimeSystem}
 use Rattle.sp3.specs.declared.header.TimeSystem.the-variants.{Less, Other, Missing}
 use Rattle.common.specs.Text.{text}
@@ -42,34 +41,34 @@ numbered (Holds n) f = f n
 numbered NoNumber f = Wrong
 
 -- ---- the columns of an epoch line
-abbrev pub year : List ℕ → Field
-year = whole 4 7
+abbrev pub yearIn : List ℕ → Field
+yearIn = whole 4 7
 
-abbrev pub month : List ℕ → Field
-month = whole 9 10
+abbrev pub monthIn : List ℕ → Field
+monthIn = whole 9 10
 
-abbrev pub day : List ℕ → Field
-day = whole 12 13
+abbrev pub dayIn : List ℕ → Field
+dayIn = whole 12 13
 
-abbrev pub hour : List ℕ → Field
-hour = whole 15 16
+abbrev pub hourIn : List ℕ → Field
+hourIn = whole 15 16
 
-abbrev pub minute : List ℕ → Field
-minute = whole 18 19
+abbrev pub minuteIn : List ℕ → Field
+minuteIn = whole 18 19
 
 -- with eight decimals
-abbrev pub second : List ℕ → Field
-second = pointed false 21 23 31
+abbrev pub secondIn : List ℕ → Field
+secondIn = pointed false 21 23 31
 
 -- ---- the columns of a P line, in kilometres with six decimals: "at coordinates perhaps a minus"
-abbrev pub x : List ℕ → Field
-x = pointed true 5 12 18
+abbrev pub xIn : List ℕ → Field
+xIn = pointed true 5 12 18
 
-abbrev pub y : List ℕ → Field
-y = pointed true 19 26 32
+abbrev pub yIn : List ℕ → Field
+yIn = pointed true 19 26 32
 
-abbrev pub z : List ℕ → Field
-z = pointed true 33 40 46
+abbrev pub zIn : List ℕ → Field
+zIn = pointed true 33 40 46
 
 -- ---- an epoch line
 
@@ -99,15 +98,15 @@ epochAt (At t) = Epoch t
 epochAt Unreal = Wrong
 epochAt Beyond = Wrong
 
--- no instant is "worked out" but "under these two time systems"; 0 stands for it, which no record keeps
-abbrev pub timeless : Calendar → Line
-timeless c = cond (real c) (Epoch (record { 0 = pos 0 })) Wrong
+-- no instant is "worked out" but "under these two time systems"; 0 stands for it, and refusal 12 lets no such record out
+abbrev pub epochWithoutInstant : Calendar → Line
+epochWithoutInstant c = cond (real c) (Epoch (record { 0 = pos 0 })) Wrong
 
 -- a date and time under a time system
 abbrev pub epochUnder : TimeSystem → Calendar → Line
 epochUnder (Less leaps) c = epochAt (instantAnswer c (leaps .0))
-epochUnder Other c = timeless c
-epochUnder Missing c = timeless c
+epochUnder Other c = epochWithoutInstant c
+epochUnder Missing c = epochWithoutInstant c
 
 -- by its six fields
 abbrev pub epochBy : TimeSystem → Field → Field → Field → Field → Field → Field → Line
@@ -117,13 +116,17 @@ epochBy system year month day hour minute second =
 
 -- what an epoch line says
 unfoldable pub epochIn : TimeSystem → List ℕ → Line
-epochIn system l = epochBy system (year l) (month l) (day l) (hour l) (minute l) (second l)
+epochIn system l = epochBy system (yearIn l) (monthIn l) (dayIn l) (hourIn l) (minuteIn l) (secondIn l)
 
 -- ---- a P line
 
 -- millionths of a kilometre, the unit of six decimals, in a metre
 abbrev pub metreUnits : ℕ
 metreUnits = 1000
+
+-- 13 digits, all that a coordinate's columns hold, are fewer millionths of a kilometre than this
+abbrev pub coordinateEnd : ℕ
+coordinateEnd = 10000000000000
 
 -- "Kilometres become metres as the double nearest the decimal value, a zero as +0"
 abbrev pub metresOf : Number → Float
@@ -143,11 +146,11 @@ placeBy x y z = numbered x (λ m. numbered y (λ n. numbered z (λ o. placeOf m 
 
 -- what a P line of the satellite says
 unfoldable pub placeIn : List ℕ → Line
-placeIn l = placeBy (x l) (y l) (z l)
+placeIn l = placeBy (xIn l) (yIn l) (zIn l)
 
 -- ---- a line: "every line with an asterisk first", "every P line of the satellite"; "other lines … are passed over"
 unfoldable pub lineOf : TimeSystem → List ℕ → List ℕ → Line
 unfolding epochIn placeIn begins
 lineOf system satellite l =
     cond (begins (text "*") l) (epochIn system l)
-    (cond (begins (text "P" ++ satellite) l) (placeIn l) Passed)
+    (cond (begins (text "P" ++ satellite) l) (placeIn l) PassedOver)

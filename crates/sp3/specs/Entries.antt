@@ -24,36 +24,36 @@ use Rattle.sp3.specs.Records.{Kept, body, faulty, kept, instantsOf, posi
 abbrev pub said : TimeSystem → List ℕ → List (List ℕ) → List Line
 said system satellite ls = map (lineOf system satellite) (body (drop headerLines ls))
 
--- the records kept of a file's lines; the first of them stands behind an epoch line, so the instant that is begun with is never one's
+-- the records kept of a file's lines; where 11 refuses nothing the first of them stands behind an epoch line, so that 0 is the instant of none
 abbrev pub recordsIn : TimeSystem → List ℕ → List (List ℕ) → List Kept
 recordsIn system satellite ls = kept (pos 0) (said system satellite ls)
 
 -- whether line 13 does not have the columns of the time system
-abbrev pub missing : TimeSystem → Bool
-missing (Less leaps) = false
-missing Other = false
-missing Missing = true
+abbrev pub isMissing : TimeSystem → Bool
+isMissing (Less leaps) = false
+isMissing Other = false
+isMissing Missing = true
 
 -- whether they hold "three bytes other than UTC or GPS"
-abbrev pub unknown : TimeSystem → Bool
-unknown (Less leaps) = false
-unknown Other = true
-unknown Missing = false
+abbrev pub isOther : TimeSystem → Bool
+isOther (Less leaps) = false
+isOther Other = true
+isOther Missing = false
 
 -- "11 in what is looked at, a header, epoch or P line not by the description"
 abbrev pub undescribed : TimeSystem → List ℕ → List (List ℕ) → Bool
-undescribed system satellite ls = not (headed beginnings ls) || missing system || faulty (said system satellite ls)
+undescribed system satellite ls = not (headed beginnings ls) || isMissing system || faulty (said system satellite ls)
 
 -- "13 no record kept or an area too short for those kept"
 abbrev pub unfit : ℕ → List ℤ → List Float → Bool
 unfit n is ps = eqb n 0 || ltb (length is) n || ltb (length ps) (axes * n)
 
 -- the refusals "in this order": the number of the first that holds, or 0
-abbrev pub refusalIn : TimeSystem → List ℕ → List (List ℕ) → List ℤ → List Float → ℕ
-refusalIn system satellite ls is ps =
+abbrev pub firstRefusal : TimeSystem → List ℕ → List (List ℕ) → List ℤ → List Float → ℕ
+firstRefusal system satellite ls is ps =
     firstFailing
     (check 11 (undescribed system satellite ls)
-    ∷ check 12 (unknown system)
+    ∷ check 12 (isOther system)
     ∷ check 13 (unfit (length (recordsIn system satellite ls)) is ps)
     ∷ [])
 
@@ -63,7 +63,7 @@ recordsOf bytes satellite leaps = recordsIn (systemOf leaps (lines bytes)) satel
 
 -- the refusal of a file, with the two areas
 abbrev pub sp3Refusal : List ℕ → List ℕ → LeapSeconds → List ℤ → List Float → ℕ
-sp3Refusal bytes satellite leaps is ps = refusalIn (systemOf leaps (lines bytes)) satellite (lines bytes) is ps
+sp3Refusal bytes satellite leaps is ps = firstRefusal (systemOf leaps (lines bytes)) satellite (lines bytes) is ps
 
 -- "answers how many"
 abbrev pub readSp3 : List ℕ → List ℕ → LeapSeconds → List ℤ → List Float → Outcome ℕ

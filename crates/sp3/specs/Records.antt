@@ -7,7 +7,7 @@ use lib.Ieee.{Float}
 use Rattle.units.specs.declared.Position.{Position}
 use Rattle.checks.specs.Checks.{any}
 use Rattle.sp3.specs.declared.line.Line.{Line}
-use Rattle.sp3.specs.declared.line.Line.the-variants.{Epoch, Place, Absent, Wrong, Passed}
+use Rattle.sp3.specs.declared.line.Line.the-variants.{Epoch, Place, Absent, Wrong, PassedOver}
 use Rattle.common.specs.Text.{text}
 use Rattle.sp3.specs.Lines.{begins}
 
@@ -23,23 +23,23 @@ isWrong (Epoch t) = false
 isWrong (Place p) = false
 isWrong Absent = false
 isWrong Wrong = true
-isWrong Passed = false
+isWrong PassedOver = false
 
--- whether it is an epoch line
+-- whether it is an epoch line by the description
 abbrev pub isEpoch : Line → Bool
 isEpoch (Epoch t) = true
 isEpoch (Place p) = false
 isEpoch Absent = false
 isEpoch Wrong = false
-isEpoch Passed = false
+isEpoch PassedOver = false
 
--- whether it is a P line of the satellite
+-- whether it is a P line of the satellite by the description
 abbrev pub isPosition : Line → Bool
 isPosition (Epoch t) = false
 isPosition (Place p) = true
 isPosition Absent = true
 isPosition Wrong = false
-isPosition Passed = false
+isPosition PassedOver = false
 
 -- the lines ahead of the first epoch line
 unfoldable pub untimed : List Line → List Line
@@ -61,7 +61,7 @@ instantAfter (Epoch u) t = u .0
 instantAfter (Place p) t = t
 instantAfter Absent t = t
 instantAfter Wrong t = t
-instantAfter Passed t = t
+instantAfter PassedOver t = t
 
 -- the record of one line, where t is the instant of the last epoch line
 abbrev pub keptOf : Line → ℤ → List Kept
@@ -69,7 +69,7 @@ keptOf (Epoch u) t = []
 keptOf (Place p) t = record { instant = t; position = p } ∷ []
 keptOf Absent t = []
 keptOf Wrong t = []
-keptOf Passed t = []
+keptOf PassedOver t = []
 
 -- the records of some lines, in their order
 unfoldable pub kept : ℤ → List Line → List Kept

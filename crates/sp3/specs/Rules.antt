@@ -4,19 +4,18 @@ use mathlib.Core.Path.{_≡_}
 use mathlib.Core.Bool.{Bool, true, false, not, cond, _&&_, _||_}
 use mathlib.Core.List.{List, [], _∷_, _++_}
 use lib.Dec.{eqb}
-use lib.IntN.{ℤ}
+use lib.IntN.{ℤ, pos}
 use lib.Ieee.{binary64, round}
 use Rattle.common.specs.Numbers.{nought}
 use Rattle.units.specs.declared.Position.{Position}
 use Rattle.decimal.specs.declared.reading.Number.{Number}
 use Rattle.decimal.specs.declared.reading.Field.{Field}
-use Rattle.decimal.specs.declared.reading.Field.the-variants.{Holds}
-use Rattle.decimal.specs.declared.reading.Field.the-variants.{Other as NoNumber}
+use Rattle.decimal.specs.declared.reading.Field.the-variants.{Holds, NoNumber}
 use Rattle.sp3.specs.declared.line.Line.{Line}
 use Rattle.common.specs.Text.{text}
 use Rattle.sp3.specs.Lines.{lineFeed, begins}
-use Rattle.sp3.specs.Columns.{absent, metresOf, metreUnits, x, y, z}
-use Rattle.sp3.specs.Records.{isEpoch, instantAfter}
+use Rattle.sp3.specs.Columns.{coordinateEnd, absent, metresOf, metreUnits, xIn, yIn, zIn}
+use Rattle.sp3.specs.Records.{Kept, isEpoch, instantAfter, keptOf}
 
 -- lines joined again, a line feed behind each
 unfoldable pub joined : List (List ℕ) → List ℕ
@@ -34,14 +33,14 @@ closed [] = []
 closed (b ∷ bs) = b ∷ closedAfter b bs
 
 -- whether a line has no line feed
-unfoldable pub feedless : List ℕ → Bool
-feedless [] = true
-feedless (b ∷ l) = not (eqb b lineFeed) && feedless l
+unfoldable pub withoutFeed : List ℕ → Bool
+withoutFeed [] = true
+withoutFeed (b ∷ l) = not (eqb b lineFeed) && withoutFeed l
 
 -- whether no line has one
-unfoldable pub allFeedless : List (List ℕ) → Bool
-allFeedless [] = true
-allFeedless (l ∷ ls) = feedless l && allFeedless ls
+unfoldable pub allWithoutFeed : List (List ℕ) → Bool
+allWithoutFeed [] = true
+allWithoutFeed (l ∷ ls) = withoutFeed l && allWithoutFeed ls
 
 -- the position of three coordinates that are numbers and not all zero
 abbrev pub placesBy : Field → Field → Field → List Position
@@ -52,7 +51,7 @@ placesBy (Holds nx) (Holds ny) (Holds nz) = cond (absent nx ny nz) [] (record { 
 
 -- that of a P line of the satellite
 abbrev pub placesIn : List ℕ → List ℕ → List Position
-placesIn satellite l = cond (begins (text "P" ++ satellite) l) (placesBy (x l) (y l) (z l)) []
+placesIn satellite l = cond (begins (text "P" ++ satellite) l) (placesBy (xIn l) (yIn l) (zIn l)) []
 
 -- those of all lines, in the file's order
 unfoldable pub places : List ℕ → List (List ℕ) → List Position
@@ -64,6 +63,11 @@ unfoldable pub lastInstant : ℤ → List Line → ℤ
 lastInstant t [] = t
 lastInstant t (l ∷ ls) = lastInstant (instantAfter l t) ls
 
+-- the records of the lines B that follow the lines A: each at the instant of the last epoch line of all those before it
+unfoldable pub recordsAfter : List Line → List Line → List Kept
+recordsAfter A [] = []
+recordsAfter A (l ∷ B) = keptOf l (lastInstant (pos 0) A) ++ recordsAfter (A ++ (l ∷ [])) B
+
 -- whether there is an epoch line
 unfoldable pub hasEpoch : List Line → Bool
 hasEpoch [] = false
@@ -71,6 +75,6 @@ hasEpoch (l ∷ ls) = isEpoch l || hasEpoch ls
 
 -- a coordinate's number, in millionths of a kilometre: it is below 10 ^ 13, and it is kept as +0 or as the double nearest a thousandth of it in metres
 pub record Valued (n : Number) : Type 0 where
-  pub small : n .digits < 10000000000000
+  pub small : n .digits < coordinateEnd
   pub zero : n .digits ≡ 0 → metresOf n ≡ nought
   pub nearest : (n .digits ≡ 0 → ⊥) → metresOf n ≡ round binary64 (n .negative) (n .digits) metreUnits

@@ -8,13 +8,13 @@ use lib.ListN.{length, take, drop}
 use lib.Ieee.{Float}
 use Rattle.sp3.specs.declared.header.TimeSystem.{TimeSystem}
 use Rattle.sp3.specs.declared.line.Line.{Line}
-use Rattle.sp3.specs.declared.line.Line.the-variants.{Epoch, Place, Absent, Wrong, Passed}
+use Rattle.sp3.specs.declared.line.Line.the-variants.{Epoch, Place, Absent, Wrong, PassedOver}
 use Rattle.sp3.specs.declared.records.Looked.{Looked}
 use Rattle.sp3.specs.declared.records.Looked.the-variants.{Found, Undescribed}
 use Rattle.sp3.specs.Lines.{lineFeed, lines}
 use Rattle.sp3.specs.Columns.{lineOf}
 use Rattle.sp3.specs.Records.{Kept, body, faulty, kept}
-use Rattle.sp3.specs.Entries.{missing, unknown, unfit}
+use Rattle.sp3.specs.Entries.{isMissing, isOther, unfit}
 
 -- how many bytes stand ahead of the first line feed
 unfoldable pub ending : List ℕ → ℕ
@@ -31,20 +31,20 @@ begun (Epoch t) b = true
 begun (Place p) b = b
 begun Absent b = b
 begun Wrong b = b
-begun Passed b = b
+begun PassedOver b = b
 
 -- whether a line is not by the description, where b says whether an epoch line stood before it
-abbrev pub misplaced : Line → Bool → Bool
-misplaced (Epoch t) b = false
-misplaced (Place p) b = not b
-misplaced Absent b = not b
-misplaced Wrong b = true
-misplaced Passed b = false
+abbrev pub faultAt : Line → Bool → Bool
+faultAt (Epoch t) b = false
+faultAt (Place p) b = not b
+faultAt Absent b = not b
+faultAt Wrong b = true
+faultAt PassedOver b = false
 
--- whether one of them is
-unfoldable pub anyMisplaced : Bool → List Line → Bool
-anyMisplaced b [] = false
-anyMisplaced b (l ∷ ls) = cond (misplaced l b) true (anyMisplaced (begun l b) ls)
+-- whether one of some lines is
+unfoldable pub anyFaultFrom : Bool → List Line → Bool
+anyFaultFrom b [] = false
+anyFaultFrom b (l ∷ ls) = cond (faultAt l b) true (anyFaultFrom (begun l b) ls)
 
 -- what the lines from a place on say, up to one that begins EOF
 abbrev pub saidFrom : TimeSystem → List ℕ → List ℕ → ℕ → List Line
@@ -61,7 +61,7 @@ lookedAt ls = cond (faulty ls) Undescribed (Found (length (kept (pos 0) ls)))
 -- the refusal of a file whose header's lines begin as they must
 abbrev pub refusalOf : TimeSystem → Looked → List ℤ → List Float → ℕ
 refusalOf system Undescribed is ps = 11
-refusalOf system (Found n) is ps = cond (missing system) 11 (cond (unknown system) 12 (cond (unfit n is ps) 13 0))
+refusalOf system (Found n) is ps = cond (isMissing system) 11 (cond (isOther system) 12 (cond (unfit n is ps) 13 0))
 
 -- the number found
 abbrev pub countOf : Looked → ℕ

@@ -23,6 +23,12 @@ const BEGINNINGS: [u8; 44] = *b"#c##+ + + + + ++++++++++%c%c%f%f%i%i/*/*/*/*";
 // The lines ahead of the one that has the time system.
 const LINES_BEFORE_SYSTEM: usize = 12;
 
+// The columns ahead of the time system there.
+const COLUMNS_BEFORE_SYSTEM: usize = 9;
+
+// Its last column.
+const SYSTEM_LAST: usize = 12;
+
 // Whether the first 22 lines begin as they must.
 pub(crate) fn is_headed(bytes: &[u8]) -> bool
     ensures { λ r. ⌜ r ≡ headed beginnings (lines (now (bytes .entry))) ⌝ }
@@ -50,13 +56,13 @@ pub(crate) fn is_headed(bytes: &[u8]) -> bool
 fn system_in(line: &[u8], leap_seconds: LeapSeconds) -> TimeSystem
     ensures { λ r. ⌜ r ≡ systemIn «leap_seconds» (now (line .entry)) ⌝ }
 {
-    if line.len() < 12 {
+    if line.len() < SYSTEM_LAST {
         return TimeSystem::Missing;
     }
-    if begins(&line[9..], b"UTC") {
+    if begins(&line[COLUMNS_BEFORE_SYSTEM..], b"UTC") {
         return TimeSystem::Less(LeapSeconds(0));
     }
-    if begins(&line[9..], b"GPS") {
+    if begins(&line[COLUMNS_BEFORE_SYSTEM..], b"GPS") {
         return TimeSystem::Less(leap_seconds);
     }
     TimeSystem::Other

@@ -9,7 +9,8 @@ use units::Nanoseconds;
 use units::Position;
 ghost use mathlib.Core.Path.{_≡_};
 ghost use Prim.Native.Nat.{_≤_, _<_};
-ghost use Rattle.sp3.specs.Columns.{whole, pointed, epochAt, timeless, epochUnder, epochIn, metresOf, absent, placeOf, placeIn, lineOf};
+ghost use Rattle.sp3.specs.Columns.{whole, pointed, epochAt, epochWithoutInstant, epochUnder, epochIn, metresOf, absent, placeOf, placeIn, lineOf};
+ghost use Rattle.sp3.specs.Columns.{coordinateEnd};
 
 // An epoch by its instant, a position of the satellite, that the position is absent, something that is not by the description, or nothing that is
 // looked at.
@@ -18,7 +19,7 @@ pub(crate) enum Line {
     Place(Position),
     Absent,
     Wrong,
-    Passed,
+    PassedOver,
 }
 
 // Hundred-millionths of a second in a second.
@@ -36,7 +37,7 @@ fn whole_in(line: &[u8], first: usize, last: usize) -> Field
     ensures { λ r. ⌜ r ≡ whole first last (now (line .entry)) ⌝ }
 {
     if line.len() < last {
-        return Field::Other;
+        return Field::NoNumber;
     }
     let from = first - 1;
     decimal::whole_of(&line[from..last], false)
@@ -48,7 +49,7 @@ fn pointed_in(line: &[u8], first: usize, point: usize, last: usize, signed: bool
     ensures { λ r. ⌜ r ≡ pointed signed first point last (now (line .entry)) ⌝ }
 {
     if line.len() < last {
-        return Field::Other;
+        return Field::NoNumber;
     }
     let from = first - 1;
     decimal::decimal_of(&line[from..last], point - first, signed)
@@ -66,8 +67,8 @@ fn epoch_at(instant: Instant) -> Line
 }
 
 // The epoch of a date and time of which no instant is worked out.
-fn timeless(c: Calendar) -> Line
-    ensures { λ r. ⌜ r ≡ timeless c ⌝ }
+fn epoch_without_instant(c: Calendar) -> Line
+    ensures { λ r. ⌜ r ≡ epochWithoutInstant c ⌝ }
 {
     if calendar::is_real(c) {
         return Line::Epoch(Nanoseconds(0));
@@ -81,8 +82,8 @@ fn epoch_under(system: TimeSystem, c: Calendar) -> Line
 {
     match system {
         TimeSystem::Less(leap_seconds) => epoch_at(calendar::instant_of(c, leap_seconds)),
-        TimeSystem::Other => timeless(c),
-        TimeSystem::Missing => timeless(c),
+        TimeSystem::Other => epoch_without_instant(c),
+        TimeSystem::Missing => epoch_without_instant(c),
     }
 }
 
@@ -122,7 +123,7 @@ fn epoch_in(line: &[u8], system: TimeSystem) -> Line
 
 // A coordinate in metres, of its millionths of a kilometre: so few are a double themselves, and one division rounds.
 fn metres_of(n: Number) -> f64
-    requires { ⌜ n .digits < 10000000000000 ⌝ }
+    requires { ⌜ n .digits < coordinateEnd ⌝ }
     ensures { λ r. ⌜ r ≡ metresOf n ⌝ }
 {
     if n.digits == 0 {
@@ -147,7 +148,7 @@ fn is_absent(x: Number, y: Number, z: Number) -> bool
 
 // A position by its coordinates.
 fn place_of(x: Number, y: Number, z: Number) -> Line
-    requires { ⌜ (x .digits < 10000000000000) × (y .digits < 10000000000000) × (z .digits < 10000000000000) ⌝ }
+    requires { ⌜ (x .digits < coordinateEnd) × (y .digits < coordinateEnd) × (z .digits < coordinateEnd) ⌝ }
     ensures { λ r. ⌜ r ≡ placeOf x y z ⌝ }
 {
     if is_absent(x, y, z) {
@@ -181,17 +182,17 @@ pub(crate) fn line_of(line: &[u8], system: TimeSystem, satellite: &[u8]) -> Line
     ensures { λ r. ⌜ r ≡ lineOf system (now (satellite .entry)) (now (line .entry)) ⌝ }
 {
     if line.len() == 0 {
-        return Line::Passed;
+        return Line::PassedOver;
     }
     let first = line[0];
     if first == b'*' {
         return epoch_in(line, system);
     }
     if first != b'P' {
-        return Line::Passed;
+        return Line::PassedOver;
     }
     if begins(&line[1..], satellite) {
         return place_in(line);
     }
-    Line::Passed
+    Line::PassedOver
 }

@@ -10,7 +10,7 @@ ghost use lib.IntN.{pos};
 ghost use lib.ListN.{length};
 ghost use Rattle.common.specs.Outcome.{written};
 ghost use Rattle.sp3.specs.Records.{instantAfter, keptOf, instantsOf, positionsOf};
-ghost use Rattle.sp3.specs.Walks.{putAt, begun, misplaced, saidFrom, keptFrom, lookedAt};
+ghost use Rattle.sp3.specs.Walks.{putAt, begun, faultAt, saidFrom, keptFrom, lookedAt};
 
 // How many records are kept, or that something is not by the description.
 pub(crate) enum Looked {
@@ -19,15 +19,15 @@ pub(crate) enum Looked {
 }
 
 // Whether a line is not by the description.
-fn is_misplaced(l: Line, started: bool) -> bool
-    ensures { λ r. ⌜ r ≡ misplaced l started ⌝ }
+fn is_fault(l: Line, started: bool) -> bool
+    ensures { λ r. ⌜ r ≡ faultAt l started ⌝ }
 {
     match l {
         Line::Epoch(_) => false,
         Line::Place(_) => !started,
         Line::Absent => !started,
         Line::Wrong => true,
-        Line::Passed => false,
+        Line::PassedOver => false,
     }
 }
 
@@ -40,7 +40,7 @@ fn is_begun(l: Line, started: bool) -> bool
         Line::Place(_) => started,
         Line::Absent => started,
         Line::Wrong => started,
-        Line::Passed => started,
+        Line::PassedOver => started,
     }
 }
 
@@ -53,7 +53,7 @@ fn records_of(l: Line) -> usize
         Line::Place(_) => 1,
         Line::Absent => 0,
         Line::Wrong => 0,
-        Line::Passed => 0,
+        Line::PassedOver => 0,
     }
 }
 
@@ -66,7 +66,7 @@ fn instant_after(l: Line, t: i64) -> i64
         Line::Place(_) => t,
         Line::Absent => t,
         Line::Wrong => t,
-        Line::Passed => t,
+        Line::PassedOver => t,
     }
 }
 
@@ -84,7 +84,7 @@ pub(crate) fn look_over(bytes: &[u8], start: usize, system: TimeSystem, satellit
             return Looked::Found(count);
         }
         let l = line_of(line, system, satellite);
-        if is_misplaced(l, started) {
+        if is_fault(l, started) {
             return Looked::Undescribed;
         }
         started = is_begun(l, started);
@@ -111,7 +111,7 @@ fn put(l: Line, t: i64, count: usize, instants: &mut [i64], positions: &mut [f64
         Line::Epoch(_) => {}
         Line::Absent => {}
         Line::Wrong => {}
-        Line::Passed => {}
+        Line::PassedOver => {}
     }
 }
 

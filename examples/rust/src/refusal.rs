@@ -16,7 +16,7 @@ pub enum Refusal {
     NoApproach = 9,
     NoShiftFits = 10,
     OrbitFileUnreadable = 11,
-    TimeSystemUnknown = 12,
+    TimeSystemNotTaken = 12,
     NoPositionOrNoRoom = 13,
 }
 
@@ -79,11 +79,11 @@ const TEXTS: &[Text] = &[
     ),
     (
         OrbitFileUnreadable,
-        "a header line, an epoch or a position of the satellite is not by SP3-c, or a date is not real or beyond the limit of 4.",
+        "a header line, a date or a position of the satellite is not as SP3-c has it, a position stands before the first date, or a date is not real or farther from 1970 than refusal 4 allows.",
         "fetch the orbit file again, whole and unedited; if it is refused again, ask its sender for SP3-c.",
     ),
     (
-        TimeSystemUnknown,
+        TimeSystemNotTaken,
         "the orbit file's time system is neither UTC nor GPS.",
         "take a file in UTC or GPS time; its line 13 says which, in columns 10 to 12.",
     ),

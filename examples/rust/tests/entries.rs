@@ -259,7 +259,7 @@ fn files_that_are_not_by_sp3_c() {
 fn other_refusals_of_the_orbit_file() {
     let file = changed("GPS", "TAI");
     let refusal = refusal_of_file(&file, SATELLITE, ROOM);
-    assert_eq!(refusal, Refusal::TimeSystemUnknown);
+    assert_eq!(refusal, Refusal::TimeSystemNotTaken);
     assert_eq!(refusal.number(), 12);
     let short = [
         (COORDINATES - 1, COORDINATES),

@@ -12,7 +12,7 @@ use lib.Seq.{length-take-le}
 use borrow.Author.Tests.{lt-leb, le-leb}
 use Rattle.decimal.specs.declared.reading.Number.{Number}
 use Rattle.decimal.specs.declared.reading.Field.{Field}
-use Rattle.decimal.specs.declared.reading.Field.the-variants.{Holds, Other}
+use Rattle.decimal.specs.declared.reading.Field.the-variants.{Holds, NoNumber}
 use Rattle.decimal.specs.Reading.{mostColumns, withDecimals, wholeOf, decimalOf}
 use Rattle.decimal.proofs.Bytes.{point-first, point-not}
 use Rattle.decimal.proofs.Bounds.{ten-mono, whole-small}
@@ -20,15 +20,15 @@ use Rattle.decimal.proofs.reading.decimal_of.Statement.{statement}
 use Rattle.decimal.proofs.reading.decimal_of.Tie as tie
 
 module _ (signed : Bool) (at : ℕ) (t : List ℕ) where
-  by-columns : (y : Bool) → leb (length t) mostColumns ≡ y → decimalOf signed at t ≡ cond y (withDecimals (wholeOf signed (take at t)) (drop at t)) Other
-  by-columns y e = ap (λ (z : Bool). cond z (withDecimals (wholeOf signed (take at t)) (drop at t)) Other) e
+  by-columns : (y : Bool) → leb (length t) mostColumns ≡ y → decimalOf signed at t ≡ cond y (withDecimals (wholeOf signed (take at t)) (drop at t)) NoNumber
+  by-columns y e = ap (λ (z : Bool). cond z (withDecimals (wholeOf signed (take at t)) (drop at t)) NoNumber) e
 
-  past : length t ≤ mostColumns → length t ≤ at → Other ≡ decimalOf signed at t
+  past : length t ≤ mostColumns → length t ≤ at → NoNumber ≡ decimalOf signed at t
   unfolding withDecimals
   past h l = sym (by-columns true (le-leb (length t) mostColumns h) ∙ ap (withDecimals (wholeOf signed (take at t))) (drop-of-length-le t l) ∙ go (wholeOf signed (take at t)))
     where
-      go : (f : Field) → withDecimals f [] ≡ Other
-      go Other = refl
+      go : (f : Field) → withDecimals f [] ≡ NoNumber
+      go NoNumber = refl
       go (Holds n) = refl
 
   by-whole : (f : Field) → length t ≤ mostColumns → wholeOf signed (take at t) ≡ f → decimalOf signed at t ≡ withDecimals f (drop at t)
@@ -97,7 +97,7 @@ returns-5 c =
     let w = c .before .before in
     let k = w .before .before .before in
     let a = k .before .before .args in
-    sym (by-whole (a .signed) (a .point) (a .text .now) Other (k .if1 .left) (sym (w .whole-of .ensures) ∙ c .enum-told .given .1))
+    sym (by-whole (a .signed) (a .point) (a .text .now) NoNumber (k .if1 .left) (sym (w .whole-of .ensures) ∙ c .enum-told .given .1))
 
 pub decimal-of-spec : {M : Type 1} → statement M
 decimal-of-spec =

@@ -4,7 +4,7 @@ use mathlib.Core.Path.{sym, ap, _∙_}
 use mathlib.Core.Bool.{Bool, cond}
 use lib.ListN.{length}
 use borrow.Author.Tests.{lt-leb, le-leb}
-use Rattle.decimal.specs.declared.reading.Field.the-variants.{Other}
+use Rattle.decimal.specs.declared.reading.Field.the-variants.{NoNumber}
 use Rattle.decimal.specs.Reading.{mostColumns, afterBlanks, signedDigits}
 use Rattle.decimal.proofs.reading.whole_of.Statement.{statement}
 use Rattle.decimal.proofs.reading.whole_of.Tie as tie
@@ -13,7 +13,7 @@ returns : tie.Need-returns
 returns c =
     let a = c .before .before .args in
     let t = a .text .now in
-    sym (ap (λ (y : Bool). cond y (signedDigits (a .signed) (afterBlanks t)) Other) (lt-leb (length t) mostColumns (c .if1 .taken)))
+    sym (ap (λ (y : Bool). cond y (signedDigits (a .signed) (afterBlanks t)) NoNumber) (lt-leb (length t) mostColumns (c .if1 .taken)))
 
 skip-blanks-requires : tie.Need-skip-blanks-requires
 skip-blanks-requires c κs = search needs
@@ -28,7 +28,7 @@ returns-2 c =
     let t = a .text .now in
     c .signed-digits .ensures
     ∙ ap (signedDigits (a .signed)) (k .skip-blanks .ensures .1)
-    ∙ sym (ap (λ (y : Bool). cond y (signedDigits (a .signed) (afterBlanks t)) Other) (le-leb (length t) mostColumns (k .before .if1 .left)))
+    ∙ sym (ap (λ (y : Bool). cond y (signedDigits (a .signed) (afterBlanks t)) NoNumber) (le-leb (length t) mostColumns (k .before .if1 .left)))
 
 pub whole-of-spec : {M : Type 1} → statement M
 whole-of-spec = tie.close (tie.spec returns skip-blanks-requires signed-digits-requires returns-2)

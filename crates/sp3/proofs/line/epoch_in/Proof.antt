@@ -8,56 +8,56 @@ use native.Mathlib.Omega.{arith}
 use Rattle.decimal.specs.declared.reading.Field.{Field}
 use Rattle.decimal.specs.declared.reading.Field.the-variants.{Holds}
 use Rattle.sp3.specs.declared.header.TimeSystem.{TimeSystem}
-use Rattle.sp3.specs.Columns.{year, month, day, hour, minute, second, epochBy, epochIn}
+use Rattle.sp3.specs.Columns.{yearIn, monthIn, dayIn, hourIn, minuteIn, secondIn, epochBy, epochIn}
 use Rattle.sp3.proofs.Values.{field-small, pointed-small}
 use Rattle.sp3.proofs.line.epoch_in.Statement.{statement}
 use Rattle.sp3.proofs.line.epoch_in.Tie as tie
 
-by-fields : (sys : TimeSystem) (l : List ℕ) {fy fm fd fh fi fs : Field} → year l ≡ fy → month l ≡ fm → day l ≡ fd → hour l ≡ fh → minute l ≡ fi → second l ≡ fs → epochIn sys l ≡ epochBy sys fy fm fd fh fi fs
+by-fields : (sys : TimeSystem) (l : List ℕ) {fy fm fd fh fi fs : Field} → yearIn l ≡ fy → monthIn l ≡ fm → dayIn l ≡ fd → hourIn l ≡ fh → minuteIn l ≡ fi → secondIn l ≡ fs → epochIn sys l ≡ epochBy sys fy fm fd fh fi fs
 unfolding epochIn
 by-fields sys l {fy} {fm} {fd} {fh} {fi} {fs} ey em ed eh ei es =
-    ap (λ (f : Field). epochBy sys f (month l) (day l) (hour l) (minute l) (second l)) ey
-    ∙ ap (λ (f : Field). epochBy sys fy f (day l) (hour l) (minute l) (second l)) em
-    ∙ ap (λ (f : Field). epochBy sys fy fm f (hour l) (minute l) (second l)) ed
-    ∙ ap (λ (f : Field). epochBy sys fy fm fd f (minute l) (second l)) eh
-    ∙ ap (λ (f : Field). epochBy sys fy fm fd fh f (second l)) ei
+    ap (λ (f : Field). epochBy sys f (monthIn l) (dayIn l) (hourIn l) (minuteIn l) (secondIn l)) ey
+    ∙ ap (λ (f : Field). epochBy sys fy f (dayIn l) (hourIn l) (minuteIn l) (secondIn l)) em
+    ∙ ap (λ (f : Field). epochBy sys fy fm f (hourIn l) (minuteIn l) (secondIn l)) ed
+    ∙ ap (λ (f : Field). epochBy sys fy fm fd f (minuteIn l) (secondIn l)) eh
+    ∙ ap (λ (f : Field). epochBy sys fy fm fd fh f (secondIn l)) ei
     ∙ ap (epochBy sys fy fm fd fh fi) es
 
 -- ---- the line, and each field that was read, at the place behind it
 abbrev line-year : tie.After-year → List ℕ
 line-year c = c .before .before .before .before .args .line .now
 
-is-year : (c : tie.After-year) → year (line-year c) ≡ Holds (c .year .given .0 .0)
+is-year : (c : tie.After-year) → yearIn (line-year c) ≡ Holds (c .year .given .0 .0)
 is-year c = sym (c .before .before .whole-in .ensures) ∙ c .year .given .1
 
 abbrev line-month : tie.After-month → List ℕ
 line-month c = line-year (c .before .before .before .before)
 
-is-month : (c : tie.After-month) → month (line-month c) ≡ Holds (c .month .given .0 .0)
+is-month : (c : tie.After-month) → monthIn (line-month c) ≡ Holds (c .month .given .0 .0)
 is-month c = sym (c .before .before .whole-in2 .ensures) ∙ c .month .given .1
 
 abbrev line-day : tie.After-day → List ℕ
 line-day c = line-month (c .before .before .before .before)
 
-is-day : (c : tie.After-day) → day (line-day c) ≡ Holds (c .day .given .0 .0)
+is-day : (c : tie.After-day) → dayIn (line-day c) ≡ Holds (c .day .given .0 .0)
 is-day c = sym (c .before .before .whole-in3 .ensures) ∙ c .day .given .1
 
 abbrev line-hour : tie.After-hour → List ℕ
 line-hour c = line-day (c .before .before .before .before)
 
-is-hour : (c : tie.After-hour) → hour (line-hour c) ≡ Holds (c .hour .given .0 .0)
+is-hour : (c : tie.After-hour) → hourIn (line-hour c) ≡ Holds (c .hour .given .0 .0)
 is-hour c = sym (c .before .before .whole-in4 .ensures) ∙ c .hour .given .1
 
 abbrev line-minute : tie.After-minute → List ℕ
 line-minute c = line-hour (c .before .before .before .before)
 
-is-minute : (c : tie.After-minute) → minute (line-minute c) ≡ Holds (c .minute .given .0 .0)
+is-minute : (c : tie.After-minute) → minuteIn (line-minute c) ≡ Holds (c .minute .given .0 .0)
 is-minute c = sym (c .before .before .whole-in5 .ensures) ∙ c .minute .given .1
 
 abbrev line-second : tie.After-second → List ℕ
 line-second c = line-minute (c .before .before .before .before)
 
-is-second : (c : tie.After-second) → second (line-second c) ≡ Holds (c .second .given .0 .0)
+is-second : (c : tie.After-second) → secondIn (line-second c) ≡ Holds (c .second .given .0 .0)
 is-second c = sym (c .before .before .pointed-in .ensures) ∙ c .second .given .1
 
 whole-in-requires : tie.Need-whole-in-requires

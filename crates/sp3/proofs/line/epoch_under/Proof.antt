@@ -18,14 +18,14 @@ epoch-at-requires c κs = search needs
 enum-told : tie.Need-enum-told
 enum-told c = search needs
 
-timeless-requires : tie.Need-timeless-requires
-timeless-requires c κs = search needs
+epoch-without-instant-requires : tie.Need-epoch-without-instant-requires
+epoch-without-instant-requires c κs = search needs
 
 enum-told-2 : tie.Need-enum-told-2
 enum-told-2 c = search needs
 
-timeless-requires-2 : tie.Need-timeless-requires-2
-timeless-requires-2 c κs = search needs
+epoch-without-instant-requires-2 : tie.Need-epoch-without-instant-requires-2
+epoch-without-instant-requires-2 c κs = search needs
 
 returns : tie.Need-returns
 returns c =
@@ -33,10 +33,10 @@ returns c =
     c .epoch-at .ensures ∙ ap epochAt (c .before .instant-of .ensures) ∙ sym (ap (λ (y : TimeSystem). epochUnder y (s .before .before .args .c)) (s .system .given .1))
 
 returns-2 : tie.Need-returns-2
-returns-2 c = let e = c .before in c .timeless .ensures ∙ sym (ap (λ (y : TimeSystem). epochUnder y (e .before .before .args .c)) (e .enum-told .given .1))
+returns-2 c = let e = c .before in c .epoch-without-instant .ensures ∙ sym (ap (λ (y : TimeSystem). epochUnder y (e .before .before .args .c)) (e .enum-told .given .1))
 
 returns-3 : tie.Need-returns-3
-returns-3 c = let e = c .before in c .timeless2 .ensures ∙ sym (ap (λ (y : TimeSystem). epochUnder y (e .before .before .args .c)) (e .enum-told2 .given .1))
+returns-3 c = let e = c .before in c .epoch-without-instant2 .ensures ∙ sym (ap (λ (y : TimeSystem). epochUnder y (e .before .before .args .c)) (e .enum-told2 .given .1))
 
 pub epoch-under-spec : {M : Type 1} → statement M
 epoch-under-spec =
@@ -46,9 +46,9 @@ epoch-under-spec =
     instant-of-requires
     epoch-at-requires
     enum-told
-    timeless-requires
+    epoch-without-instant-requires
     enum-told-2
-    timeless-requires-2
+    epoch-without-instant-requires-2
     returns
     returns-2
     returns-3)

@@ -3,7 +3,7 @@ use borrow.Author.Needs.{needs}
 use mathlib.Core.Path.{sym, ap, _∙_}
 use mathlib.Core.Bool.{Bool, cond}
 use native.Mathlib.Omega.{arith}
-use Rattle.sp3.specs.declared.line.Line.the-variants.{Passed}
+use Rattle.sp3.specs.declared.line.Line.the-variants.{PassedOver}
 use Rattle.sp3.specs.Lines.{begins}
 use Rattle.sp3.specs.Columns.{placeIn}
 use Rattle.sp3.proofs.Said.{tail, empty-line, epoch-line, other-line, place-line}
@@ -53,7 +53,7 @@ returns-4 c =
     let a = e .before .before .before .before .before .before .args in
     let l = a .line .now in
     c .place-in .ensures
-    ∙ ap (λ (y : Bool). cond y (placeIn l) Passed) (sym (c .before .if4 .taken) ∙ b .begins .ensures ∙ ap (begins (a .satellite .now)) (tail 1 l))
+    ∙ ap (λ (y : Bool). cond y (placeIn l) PassedOver) (sym (c .before .if4 .taken) ∙ b .begins .ensures ∙ ap (begins (a .satellite .now)) (tail 1 l))
     ∙ place-line (a .system) (a .satellite .now) l (omega arith) (e .if3 .left)
 
 returns-5 : tie.Need-returns-5
@@ -62,7 +62,7 @@ returns-5 c =
     let e = b .before .before in
     let a = e .before .before .before .before .before .before .args in
     let l = a .line .now in
-    ap (λ (y : Bool). cond y (placeIn l) Passed) (sym (c .if4 .left) ∙ b .begins .ensures ∙ ap (begins (a .satellite .now)) (tail 1 l))
+    ap (λ (y : Bool). cond y (placeIn l) PassedOver) (sym (c .if4 .left) ∙ b .begins .ensures ∙ ap (begins (a .satellite .now)) (tail 1 l))
     ∙ place-line (a .system) (a .satellite .now) l (omega arith) (e .if3 .left)
 
 pub line-of-spec : {M : Type 1} → statement M

@@ -6,32 +6,32 @@ use Prim.Native.Nat.{ℕ}
 use native.Mathlib.Omega.{arith}
 use Rattle.decimal.specs.declared.reading.Field.{Field}
 use Rattle.decimal.specs.declared.reading.Field.the-variants.{Holds}
-use Rattle.sp3.specs.Columns.{x, y, z, placeBy, placeIn}
+use Rattle.sp3.specs.Columns.{xIn, yIn, zIn, placeBy, placeIn}
 use Rattle.sp3.proofs.Values.{coordinate-small}
 use Rattle.sp3.proofs.line.place_in.Statement.{statement}
 use Rattle.sp3.proofs.line.place_in.Tie as tie
 
-by-fields : (l : List ℕ) {f g h : Field} → x l ≡ f → y l ≡ g → z l ≡ h → placeIn l ≡ placeBy f g h
+by-fields : (l : List ℕ) {f g h : Field} → xIn l ≡ f → yIn l ≡ g → zIn l ≡ h → placeIn l ≡ placeBy f g h
 unfolding placeIn
-by-fields l {f} {g} {h} p q r = ap (λ (u : Field). placeBy u (y l) (z l)) p ∙ ap (λ (u : Field). placeBy f u (z l)) q ∙ ap (placeBy f g) r
+by-fields l {f} {g} {h} p q r = ap (λ (u : Field). placeBy u (yIn l) (zIn l)) p ∙ ap (λ (u : Field). placeBy f u (zIn l)) q ∙ ap (placeBy f g) r
 
 -- ---- the line, and each coordinate that was read, at the place behind it
 abbrev line-x : tie.After-x → List ℕ
 line-x c = c .before .before .before .before .args .line .now
 
-is-x : (c : tie.After-x) → x (line-x c) ≡ Holds (c .x .given .0 .0)
+is-x : (c : tie.After-x) → xIn (line-x c) ≡ Holds (c .x .given .0 .0)
 is-x c = sym (c .before .before .pointed-in .ensures) ∙ c .x .given .1
 
 abbrev line-y : tie.After-y → List ℕ
 line-y c = line-x (c .before .before .before .before)
 
-is-y : (c : tie.After-y) → y (line-y c) ≡ Holds (c .y .given .0 .0)
+is-y : (c : tie.After-y) → yIn (line-y c) ≡ Holds (c .y .given .0 .0)
 is-y c = sym (c .before .before .pointed-in2 .ensures) ∙ c .y .given .1
 
 abbrev line-z : tie.After-z → List ℕ
 line-z c = line-y (c .before .before .before .before)
 
-is-z : (c : tie.After-z) → z (line-z c) ≡ Holds (c .z .given .0 .0)
+is-z : (c : tie.After-z) → zIn (line-z c) ≡ Holds (c .z .given .0 .0)
 is-z c = sym (c .before .before .pointed-in3 .ensures) ∙ c .z .given .1
 
 pointed-in-requires : tie.Need-pointed-in-requires

@@ -66,8 +66,8 @@ returns c =
 line-of-requires : tie.Need-line-of-requires Inv-loop μ-loop
 line-of-requires c κs = search needs
 
-is-misplaced-requires : tie.Need-is-misplaced-requires Inv-loop μ-loop
-is-misplaced-requires c κs = search needs
+is-fault-requires : tie.Need-is-fault-requires Inv-loop μ-loop
+is-fault-requires c κs = search needs
 
 returns-2 : tie.Need-returns-2 Inv-loop μ-loop
 returns-2 c =
@@ -76,7 +76,7 @@ returns-2 c =
     let l = e .before .before .loop in
     let a = e .before .before .before .before .before .args in
     let S = saidFrom (a .system) (a .satellite .now) (a .bytes .now) in
-    look-wrong (S (a .start)) (S (l .from)) (l .started) (l .count) (l .inv .1) (n .line-of .result) (S (e .line-end .result + 1)) (next n) (sym (c .before .is-misplaced .ensures) ∙ c .if2 .taken)
+    look-wrong (S (a .start)) (S (l .from)) (l .started) (l .count) (l .inv .1) (n .line-of .result) (S (e .line-end .result + 1)) (next n) (sym (c .before .is-fault .ensures) ∙ c .if2 .taken)
 
 is-begun-requires : tie.Need-is-begun-requires Inv-loop μ-loop
 is-begun-requires c κs = search needs
@@ -101,7 +101,7 @@ loop-again c =
     let l = e .before .before .loop in
     let a = e .before .before .before .before .before .args in
     let S = saidFrom (a .system) (a .satellite .now) (a .bytes .now) in
-    let w = look-more (S (a .start)) (S (l .from)) (l .started) (l .count) (l .inv .1) (n .line-of .result) (S (e .line-end .result + 1)) (next n) (sym (m .before .is-misplaced .ensures) ∙ m .if2 .left) in
+    let w = look-more (S (a .start)) (S (l .from)) (l .started) (l .count) (l .inv .1) (n .line-of .result) (S (e .line-end .result + 1)) (next n) (sym (m .before .is-fault .ensures) ∙ m .if2 .left) in
     (omega (arith, c .records-of .ensures .1, e .line-end .ensures .0, l .inv .0), rw (c .before .is-begun .ensures, c .records-of .ensures .0) w)
 
 returns-3 : tie.Need-returns-3 Inv-loop μ-loop
@@ -126,7 +126,7 @@ look-over-spec =
     begins-requires
     returns
     line-of-requires
-    is-misplaced-requires
+    is-fault-requires
     returns-2
     is-begun-requires
     records-of-requires
