@@ -47,6 +47,7 @@ const fn size(satellites: usize, epochs: usize) -> Size {
 pub fn compare(total: &mut Total) {
     compare_well_formed(total);
     compare_damaged(total);
+    compare_without_order(total);
     compare_places(total);
     compare_dates(total);
     compare_refusals(total);
@@ -93,7 +94,7 @@ fn compare_well_formed(total: &mut Total) {
     tally.finish(total);
 }
 
-/// Files with one to four damages, and bytes without any order.
+/// Small files with one to four damages, each number of them as often; one file in twenty is cut off as well.
 fn compare_damaged(total: &mut Total) {
     let mut tally = Tally::new("read_sp3, damaged files");
     let mut random = Random::new(101);
@@ -103,7 +104,7 @@ fn compare_damaged(total: &mut Total) {
             epochs: 1 + random.below(4),
         };
         let mut sample = well_formed::draw(&mut random, size);
-        for _ in 0..random.pick(&[1, 1, 1, 2, 4]) {
+        for _ in 0..1 + random.below(4) {
             random.pick(&damage::KINDS)(&mut random, &mut sample);
         }
         let mut call = sample.drawn_call(&mut random);
@@ -112,6 +113,13 @@ fn compare_damaged(total: &mut Total) {
         }
         compare_call(&mut tally, &call);
     }
+    tally.finish(total);
+}
+
+/// Bytes without any order.
+fn compare_without_order(total: &mut Total) {
+    let mut tally = Tally::new("read_sp3, bytes in no order");
+    let mut random = Random::new(104);
     for _ in 0..RANDOM {
         compare_call(&mut tally, &without_order(&mut random));
     }

@@ -1,7 +1,7 @@
 //! Well-formed files through `codadump`, of Debian's package coda: a reader of SP3 that neither side has anything of.
 
 use super::folder;
-use super::rust::{Kept, ours_of};
+use super::rust::{Kept, name, or_none, ours_of};
 use super::size;
 use crate::driver::shown;
 use crate::tally::{Tally, Total};
@@ -38,13 +38,14 @@ pub fn compare(total: &mut Total) {
         let sample = taken(&mut random, sizes[k % sizes.len()]);
         let path = folder::write(&format!("{k:03}.sp3"), &sample.bytes());
         let coda = dumped(&path).map(|text| records(&text, sample.satellite));
-        let ours = ours_of(&sample).unwrap_or_default();
+        let ours = or_none(ours_of(&sample));
         let lessened = if sample.lines[12][9..12] == *b"GPS" {
             sample.leap_seconds
         } else {
             0
         };
-        let equal = coda.as_ref().is_ok_and(|coda| agree(&ours, coda, lessened));
+        let both = ours.as_ref().ok().zip(coda.as_ref().ok());
+        let equal = both.is_some_and(|(ours, coda)| agree(ours, coda, lessened));
         tally.record(equal, || {
             let words = shown(&sample.call().arguments());
             format!(
@@ -52,10 +53,10 @@ pub fn compare(total: &mut Total) {
                 path.display()
             )
         });
-        tally.note(if ours.is_empty() {
-            "without a record"
-        } else {
-            "with records"
+        tally.note(match ours {
+            Ok(records) if records.is_empty() => "without a record",
+            Ok(_) => "with records",
+            Err(_) => "refused",
         });
     }
     tally.finish(total);
@@ -121,13 +122,6 @@ fn agree(ours: &[Kept], coda: &[Record], lessened: i16) -> bool {
 
 /// A file of a sort that codadump takes: all columns of the header, clocks, EOF; velocities only where the header says so.
 fn taken(random: &mut Random, size: Size) -> Sample {
-    let name = |k: usize| {
-        [
-            b"GRE"[k / 32],
-            b'0' + (k % 32 / 10) as u8,
-            b'0' + (k % 32 % 10) as u8,
-        ]
-    };
     let satellites: Vec<[u8; 3]> = (0..size.satellites).map(name).collect();
     let kind = random.pick(&['P', 'P', 'V']);
     let mut lines = full_header(

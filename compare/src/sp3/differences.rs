@@ -4,6 +4,7 @@
 
 mod list;
 
+use super::folder;
 use super::rust::{Kept, ours_of, rust_of};
 use crate::tally::{Tally, Total};
 use compare::description::HEADER;
@@ -24,7 +25,8 @@ pub fn compare(total: &mut Total) {
         let (our, their) = (our_words(&sample), rust_words(&sample));
         println!("  parse_sp3_file {what}: ours {our}; the Rust {their}");
         tally.record(our == ours && their == rust, || {
-            format!("{what}: not ours {ours}; the Rust {rust}")
+            let path = folder::keep_differing(&sample.bytes());
+            format!("{what}: not ours {ours}; the Rust {rust}; the file is {path}")
         });
     }
     tally.finish(total);

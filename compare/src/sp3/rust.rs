@@ -1,11 +1,10 @@
-//! Which records the Rust's own reader keeps, on files on which its rules and the description's are the same.
+//! The records that the Rust's own reader keeps, on files on which its rules and the description's are the same.
 
-use super::ours;
-use super::size;
-use crate::driver::shown;
+use super::{ours, size, tell};
 use crate::tally::{Tally, Total};
-use compare::description;
+use compare::answers::Answer;
 use compare::description::calendar::{Calendar, SECOND, STEP};
+use compare::description::{self, NO_RECORD_OR_NO_ROOM};
 use compare::inputs::random::Random;
 use compare::inputs::sp3::well_formed::Size;
 use compare::inputs::sp3::{Coordinate, Filled, Sample, epoch_line, full_header, position_line};
@@ -17,7 +16,7 @@ const FILES: usize = 6_000;
 /// 1 January 2000, in nanoseconds since 1970.
 const YEAR_2000: i128 = 946_684_800 * SECOND;
 
-/// Compares which records are kept and at which instants, and ours with the nearest doubles; counts the coordinates that the Rust rounds twice.
+/// Compares the records of both sides, and every word of ours with that by the description; counts the coordinates that the Rust's second rounding changes.
 pub fn compare(total: &mut Total) {
     let mut tally = Tally::new("read_sp3 and parse_sp3_file, records kept");
     let mut random = Random::new(110);
@@ -26,15 +25,18 @@ pub fn compare(total: &mut Total) {
     for k in 0..FILES {
         let mut sample = published(&mut random, sizes[k % sizes.len()]);
         vary(&mut random, &mut sample);
-        let [ours, rust] = [
-            ours_of(&sample).unwrap_or_default(),
-            rust_of(&sample).unwrap_or_default(),
-        ];
-        let equal = instants(&ours) == instants(&rust) && ours == described(&sample);
+        let call = sample.call();
+        let (answer, expected) = (ours::records(&call), description::answer(&call));
+        let (ours, rust) = (or_none(kept(&answer)), rust_of(&sample));
+        let both = ours.as_ref().ok().zip(rust.as_ref());
+        let equal = answer == expected && both.is_some_and(|(ours, rust)| agree(ours, rust));
         tally.record(equal, || {
-            let words = shown(&sample.call().arguments());
-            format!("{words}:\n  ours {ours:?}\n  Rust {rust:?}")
+            let words = tell(&call, &answer, &expected);
+            format!("{words}\n  ours {ours:?}\n  Rust {rust:?}")
         });
+        let (true, Some((ours, rust))) = (equal, both) else {
+            continue;
+        };
         if ours.is_empty() {
             tally.note("without a record");
         }
@@ -44,15 +46,28 @@ pub fn compare(total: &mut Total) {
         rounded_twice += ours.zip(rust).filter(|(ours, rust)| ours != rust).count();
     }
     tally.finish(total);
-    println!("  of {coordinates} coordinates the Rust's second rounding changes {rounded_twice}");
+    println!(
+        "  of {coordinates} coordinates the Rust's second rounding makes {rounded_twice} the double beside ours"
+    );
 }
 
-/// The records by the description; none where it refuses.
-fn described(sample: &Sample) -> Vec<Kept> {
-    let records = description::read(&sample.bytes(), sample.satellite, sample.leap_seconds);
-    let records = records.unwrap_or_default().into_iter();
-    let kept = records.map(|record| (i128::from(record.instant), record.position));
-    kept.collect()
+/// Whether both have records at the same instants, and each coordinate of the Rust's is ours or the double beside it.
+fn agree(ours: &[Kept], rust: &[Kept]) -> bool {
+    let same = |(ours, rust): (&Kept, &Kept)| {
+        ours.0 == rust.0 && ours.1.iter().zip(rust.1).all(|(&a, b)| beside(a, b))
+    };
+    ours.len() == rust.len() && ours.iter().zip(rust).all(same)
+}
+
+/// Whether two doubles are the same or neighbours, of one sign: no more can rounding twice change.
+///
+/// Ours is the double nearest to 1000 d, d being the decimal in kilometres. The Rust takes the double nearest to d, 1000 times it, and the double nearest to that.
+///
+/// Let u be the distance of doubles about d. The first rounding errs by u / 2 at most, so the product is off by 500 u at most. About 1000 d the doubles are 512 u or 1024 u apart: the product is off by less than 0.98 of their distance. Its rounding and ours each err by half of it at most. Thus the two are less than 1.98 distances apart, and as they are a whole number of them apart, at most one.
+///
+/// If a power of two lies between 1000 d and the product, the distance below it is 512 u and above it 1024 u: whichever is above is nearer to the power than half the distance there and becomes it, and the other is nearer to it than one distance there and becomes it or the double before it.
+fn beside(a: f64, b: f64) -> bool {
+    a.to_bits().abs_diff(b.to_bits()) <= 1
 }
 
 /// Records are lost, velocities and comments put in, lines ended otherwise: both rules still agree.
@@ -77,11 +92,6 @@ fn vary(random: &mut Random, sample: &mut Sample) {
     sample.lines = lines;
     sample.end = random.pick(&[b"\n", b"\r\n"]);
     sample.ended = random.one_in(2);
-}
-
-/// The instants of records.
-fn instants(records: &[Kept]) -> Vec<i128> {
-    records.iter().map(|record| record.0).collect()
 }
 
 /// A file as it is published, on which both rules agree: UTC, rising epochs, all positions present, clocks, and blanks between all fields.
@@ -111,8 +121,8 @@ pub fn published(random: &mut Random, size: Size) -> Sample {
     }
 }
 
-/// The name of a satellite.
-fn name(k: usize) -> [u8; 3] {
+/// The name of a satellite: a letter, and a number from 01 to 32.
+pub fn name(k: usize) -> [u8; 3] {
     let number = k % 32 + 1;
     let digit = |n: usize| b'0' + n as u8;
     [b"GREC"[k / 32], digit(number / 10), digit(number % 10)]
@@ -138,7 +148,19 @@ pub type Kept = (i128, [f64; 3]);
 
 /// The records that our library keeps, or its refusal.
 pub fn ours_of(sample: &Sample) -> Result<Vec<Kept>, u8> {
-    let answer = ours::records(&sample.call());
+    kept(&ours::records(&sample.call()))
+}
+
+/// No record instead of the refusal by 13, which says that there is none to keep; the other refusals stay.
+pub fn or_none(records: Result<Vec<Kept>, u8>) -> Result<Vec<Kept>, u8> {
+    match records {
+        Err(NO_RECORD_OR_NO_ROOM) => Ok(Vec::new()),
+        other => other,
+    }
+}
+
+/// The records of an answer whose areas have just their length, or the refusal.
+fn kept(answer: &Answer) -> Result<Vec<Kept>, u8> {
     match answer.refusal {
         Some(0) => {}
         number => return Err(number.unwrap_or(0)),

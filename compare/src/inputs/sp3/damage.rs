@@ -11,7 +11,7 @@ pub const HITS: [u8; 20] = *b"0159 -+.,AeP*\r\n\t\0\xff/:";
 /// One sort of damage.
 pub type Damage = fn(&mut Random, &mut Sample);
 
-/// Every sort.
+/// The fourteen sorts; the two that go for the lines that are looked at stand twice, so that each comes twice as often as another.
 pub const KINDS: [Damage; 16] = [
     hit_looked_at,
     hit_looked_at,
@@ -57,7 +57,7 @@ const SECONDS: [&str; 12] = [
     "  nan      ",
 ];
 
-/// What is put into the columns of a coordinate.
+/// What is put into the columns of a coordinate. One is longer by a digit, as if a seventh decimal were written: these columns are right then, and the digit goes into the first column behind them.
 const COORDINATES: [&str; 20] = [
     "      0.000000",
     "     -0.000000",
