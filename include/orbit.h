@@ -152,8 +152,8 @@ uint8_t orbit_pass(const int64_t *instants, size_t instant_count, const double *
 /* The positions of one satellite in the bytes of an orbit file in SP3-c, in the file's order, as instants and x, y, z in metres at the
  * front of the two areas; the rest of each stays. The satellite is its three bytes in the file, such as {'G', '0', '5'}. A file in UTC
  * gives its own instants; one in GPS time gives them less the leap seconds. A position of three zeros is absent and left out. The number
- * of positions goes into count. Instants that fall or repeat in the file are given as they stand, and a table of them is refused by 5 where
- * it is used. Refuses by 11, 12, 13. */
+ * of positions goes into count. Instants that fall or repeat are given as they stand, and so are more than 4,096 positions: such a table is
+ * refused by 5 or 1 where it is used. A file that was cut off behind a whole line is read as far as it goes. Refuses by 11, 12, 13. */
 uint8_t orbit_read_sp3(const uint8_t *bytes, size_t byte_count, const uint8_t satellite[3], orbit_leap_seconds leap_seconds,
                        int64_t *instants, size_t instant_count, double *positions, size_t position_count, uint64_t *count);
 

@@ -52,7 +52,7 @@ fn file(time_system: [u8; 3], body: &[&str]) -> Sample {
 }
 
 /// Those that are not by their lines alone: time systems, the header, bytes that are no text, a name.
-fn others() -> [Shown; 5] {
+fn others() -> [Shown; 6] {
     let gps = file(*b"GPS", &[E0, P1]);
     let glonass = file(*b"GLO", &[E0, P1]);
     let mut without_header = in_utc(&[E0, P1, E1, P2]);
@@ -61,6 +61,8 @@ fn others() -> [Shown; 5] {
     no_text.lines[HEADER.len() - 1].push(0xff);
     let mut blank = in_utc(&[E0, &P1.replace("G05", "  5")]);
     blank.satellite = *b"  5";
+    let mut inside = in_utc(&[E0, &P1.replace("G05", "G 5")]);
+    inside.satellite = *b"G 5";
     [
         ("takes GPS for UTC", gps, "-18 s x 1000.0", FIRST),
         ("takes any other for UTC", glonass, "refused by 12", FIRST),
@@ -69,6 +71,12 @@ fn others() -> [Shown; 5] {
         (
             "finds no name with a blank first",
             blank,
+            FIRST,
+            "no record",
+        ),
+        (
+            "finds no name with a blank inside",
+            inside,
             FIRST,
             "no record",
         ),

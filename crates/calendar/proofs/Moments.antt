@@ -14,18 +14,18 @@ use Rattle.checks.specs.Limits.{farthestInstant}
 use Rattle.checks.specs.Checks.{beyond}
 use Rattle.calendar.specs.declared.gregorian.Calendar.{Calendar}
 use Rattle.calendar.specs.Gregorian.{leap, sum, daysOfYears, dayNumber}
-use Rattle.calendar.specs.Instants.{secondNumber, epoch, instantOf, lessened}
+use Rattle.calendar.specs.Instants.{secondNumber, origin, since1970, lessened}
 use Rattle.calendar.specs.Formulas.{Real, secondsLess, manySeconds, far}
 use Rattle.calendar.proofs.DayNumbers.{day-small}
 
-pub epoch-seconds : secondNumber epoch ≡ 62135596800
+pub origin-seconds : secondNumber origin ≡ 62135596800
 unfolding leap sum daysOfYears
-epoch-seconds = refl
+origin-seconds = refl
 
 -- ---- leap seconds taken from the seconds
 
-pub seconds-first : (c : Calendar) (leaps : ℤ) → lessened (instantOf c) leaps ≡ secondsLess c leaps *ℤ pos second +ℤ pos (c .nanosecond)
-seconds-first c leaps = joins (secondNumber c) (secondNumber epoch) (c .nanosecond)
+pub seconds-first : (c : Calendar) (leaps : ℤ) → lessened (since1970 c) leaps ≡ secondsLess c leaps *ℤ pos second +ℤ pos (c .nanosecond)
+seconds-first c leaps = joins (secondNumber c) (secondNumber origin) (c .nanosecond)
   where
     joins : (s e n : ℕ) → pos (second * s + n) -ℤ pos (second * e + 0) -ℤ leaps *ℤ pos second ≡ (pos s -ℤ pos e -ℤ leaps) *ℤ pos second +ℤ pos n
     joins s e n =
@@ -105,5 +105,5 @@ far-beyond s n h k =
     large (pos a) p q x y m d e f g i = omega arith
     large (negsuc a) p q x y m d e f g i = omega arith
 
-pub far-is-beyond : (c : Calendar) (leaps : ℤ) → Real c → far (secondsLess c leaps) ≡ true → beyond (lessened (instantOf c) leaps) ≡ true
+pub far-is-beyond : (c : Calendar) (leaps : ℤ) → Real c → far (secondsLess c leaps) ≡ true → beyond (lessened (since1970 c) leaps) ≡ true
 far-is-beyond c leaps h e = subst (λ (t : ℤ). beyond t ≡ true) (sym (seconds-first c leaps)) (far-beyond (secondsLess c leaps) (c .nanosecond) e (h .time .nanosecond-to))

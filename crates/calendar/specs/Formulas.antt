@@ -6,7 +6,7 @@ use lib.IntN.{ℤ, pos, natAbs, _-ℤ_}
 use Rattle.common.specs.Time.{second as nanosecondsInSecond}
 use Rattle.calendar.specs.declared.gregorian.Calendar.{Calendar}
 use Rattle.calendar.specs.Gregorian.{leap, daysOfMonth, lastYear, monthsInYear, hoursInDay, minutesInHour, secondsInMinute}
-use Rattle.calendar.specs.Instants.{secondNumber, epoch}
+use Rattle.calendar.specs.Instants.{secondNumber, origin}
 
 -- what holds of a date that there is
 pub record RealDate (c : Calendar) : Type 0 where
@@ -44,7 +44,7 @@ monthsInDays l month = (367 * month - 362) / 12 - cond (leb month 2) 0 (behind l
 
 -- whole seconds since 1970-01-01 00:00:00, less leap seconds
 abbrev pub secondsLess : Calendar → ℤ → ℤ
-secondsLess c leaps = pos (secondNumber c) -ℤ pos (secondNumber epoch) -ℤ leaps
+secondsLess c leaps = pos (secondNumber c) -ℤ pos (secondNumber origin) -ℤ leaps
 
 -- seconds past this, either way, are beyond check 4 whatever nanoseconds are added
 abbrev pub manySeconds : ℕ

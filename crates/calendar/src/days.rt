@@ -3,12 +3,12 @@ use crate::gregorian::Calendar;
 use crate::gregorian::is_leap;
 ghost use mathlib.Core.Path.{_≡_};
 ghost use Prim.Native.Nat.{_≤_};
-ghost use Rattle.calendar.specs.Gregorian.{dayNumber};
+ghost use Rattle.calendar.specs.Gregorian.{lastYear, monthsInYear, dayNumber};
 ghost use Rattle.calendar.specs.Formulas.{RealDate, yearsInDays, behind, monthsInDays};
 
 // The days of n years from year 1 on.
 fn years_in_days(n: u32) -> u32
-    requires { ⌜ n ≤ 9999 ⌝ }
+    requires { ⌜ n ≤ lastYear ⌝ }
     ensures { λ r. ⌜ r ≡ yearsInDays n ⌝ }
 {
     365 * n + n / 4 - n / 100 + n / 400
@@ -23,7 +23,7 @@ fn behind(leap: bool) -> u32
 
 // The days of the months before a month: with a February of 30 days the twelve months are spread evenly over 367 days.
 fn months_in_days(month: u32, leap: bool) -> u32
-    requires { ⌜ (1 ≤ month) × (month ≤ 12) ⌝ }
+    requires { ⌜ (1 ≤ month) × (month ≤ monthsInYear) ⌝ }
     ensures { λ r. ⌜ r ≡ monthsInDays leap month ⌝ }
 {
     if month <= 2 {

@@ -1,7 +1,7 @@
 // A date and time by its numbers, and whether there is such a one.
 ghost use mathlib.Core.Path.{_≡_};
 ghost use Prim.Native.Nat.{_≤_};
-ghost use Rattle.calendar.specs.Gregorian.{leap, daysOfMonth, realDate, realTime, real};
+ghost use Rattle.calendar.specs.Gregorian.{monthsInYear, leap, daysOfMonth, realDate, realTime, real};
 
 // A date and time of the Gregorian calendar, months and days from 1.
 pub struct Calendar {
@@ -47,7 +47,7 @@ pub(crate) fn is_leap(year: u16) -> bool
 
 // The days of a month.
 fn month_length(month: u8, leap: bool) -> u8
-    requires { ⌜ (1 ≤ month) × (month ≤ 12) ⌝ }
+    requires { ⌜ (1 ≤ month) × (month ≤ monthsInYear) ⌝ }
     ensures { λ r. ⌜ r ≡ daysOfMonth leap month ⌝ }
 {
     match month {

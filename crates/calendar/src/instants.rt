@@ -12,18 +12,18 @@ ghost use mathlib.Core.Path.{_≡_};
 ghost use Prim.Native.Nat.{_≤_};
 ghost use lib.IntN.{pos, natAbs, _+ℤ_, _*ℤ_};
 ghost use Rattle.common.specs.Time.{second};
-ghost use Rattle.calendar.specs.Instants.{secondNumber, instantAnswer};
+ghost use Rattle.calendar.specs.Instants.{secondNumber, instantOf};
 ghost use Rattle.calendar.specs.Formulas.{Real, secondsLess, manySeconds, far};
 
 // What a calendar is: an instant, no real date and time, or one whose instant is beyond the limit of check 4.
-pub enum Instant {
+pub enum InstantAnswer {
     At(Nanoseconds),
     Unreal,
     Beyond,
 }
 
 // The seconds from 0001-01-01 00:00:00 to 1970-01-01 00:00:00.
-const EPOCH_SECONDS: i64 = 62_135_596_800;
+const ORIGIN_SECONDS: i64 = 62_135_596_800;
 
 // So many seconds from 1970 are beyond check 4, whatever nanoseconds are added.
 const MANY_SECONDS: i64 = 5_000_000_000;
@@ -43,7 +43,7 @@ fn seconds_less(c: Calendar, leap_seconds: LeapSeconds) -> i64
     requires { ⌜ Real c ⌝ }
     ensures { λ r. ⌜ r ≡ secondsLess c («leap_seconds» .0) ⌝ }
 {
-    second_number(c) as i64 - EPOCH_SECONDS - leap_seconds.0 as i64
+    second_number(c) as i64 - ORIGIN_SECONDS - leap_seconds.0 as i64
 }
 
 // Whether seconds are so far from 1970 that they are beyond check 4.
@@ -65,19 +65,19 @@ fn joined(seconds: i64, nanoseconds: u32) -> i64
 }
 
 // The instant of a calendar, less leap seconds.
-pub fn instant_of(c: Calendar, leap_seconds: LeapSeconds) -> Instant
-    ensures { λ r. ⌜ r ≡ instantAnswer c («leap_seconds» .0) ⌝ }
+pub fn instant_of(c: Calendar, leap_seconds: LeapSeconds) -> InstantAnswer
+    ensures { λ r. ⌜ r ≡ instantOf c («leap_seconds» .0) ⌝ }
 {
     if !is_real(c) {
-        return Instant::Unreal;
+        return InstantAnswer::Unreal;
     }
     let seconds = seconds_less(c, leap_seconds);
     if is_far(seconds) {
-        return Instant::Beyond;
+        return InstantAnswer::Beyond;
     }
     let t = Nanoseconds(joined(seconds, c.nanosecond));
     if checks::beyond(t) {
-        return Instant::Beyond;
+        return InstantAnswer::Beyond;
     }
-    Instant::At(t)
+    InstantAnswer::At(t)
 }

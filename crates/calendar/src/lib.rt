@@ -5,5 +5,5 @@ mod instants;
 
 pub use gregorian::Calendar;
 pub use gregorian::is_real;
-pub use instants::Instant;
+pub use instants::InstantAnswer;
 pub use instants::instant_of;

@@ -12,7 +12,7 @@ use Rattle.decimal.specs.Reading.{blank, minus, point, firstDigit}
 abbrev pub bytes : List ℕ → List ℕ
 bytes ds = map (λ (d : ℕ). firstDigit + d) ds
 
--- digits that are digits
+-- each of them is below ten
 unfoldable pub Digits : List ℕ → Type 0
 Digits [] = Unit {0}
 Digits (d ∷ ds) = (d < 10) × Digits ds

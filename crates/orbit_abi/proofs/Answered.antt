@@ -1,5 +1,5 @@
 -- 0 says answered: no entry's outcome is a refusal with the number 0, so a C caller reads an answer exactly where there is one. A check that fails gives
--- its own number, and 8, 9 and 10 come from their own cases; none of them is 0, nor 11, 12 or 13. Assumes nothing.
+-- its own number, and 8, 9 and 10 come from their own cases; none of them is 0, nor is 11, 12 or 13 of the reader of orbit files. Assumes nothing.
 use mathlib.Core.Path.{_≡_, refl}
 use mathlib.Core.Bool.{Bool, true, false, cond}
 use mathlib.Core.List.{List}

@@ -5,7 +5,7 @@ use mathlib.Core.Bool.{Bool, true, false, _||_}
 use mathlib.Core.List.{List, [], _∷_}
 use Rattle.checks.specs.Checks.{any}
 use Rattle.sp3.specs.declared.line.Line.{Line}
-use Rattle.sp3.specs.declared.line.Line.the-variants.{Epoch, Place, Absent, Wrong, PassedOver}
+use Rattle.sp3.specs.declared.line.Line.the-variants.{Epoch, Located, Absent, Wrong, PassedOver}
 use Rattle.sp3.specs.Records.{isWrong, untimed, faulty}
 use Rattle.sp3.specs.Walks.{anyFaultFrom}
 
@@ -14,7 +14,7 @@ timed : (L : List Line) → anyFaultFrom true L ≡ any isWrong L
 unfolding anyFaultFrom any
 timed [] = refl
 timed (Epoch t ∷ L) = timed L
-timed (Place p ∷ L) = timed L
+timed (Located p ∷ L) = timed L
 timed (Absent ∷ L) = timed L
 timed (Wrong ∷ L) = refl
 timed (PassedOver ∷ L) = timed L
@@ -31,7 +31,7 @@ pub faults : (L : List Line) → anyFaultFrom false L ≡ faulty L
 unfolding anyFaultFrom any untimed
 faults [] = refl
 faults (Epoch t ∷ L) = timed L ∙ sym (or-none (any isWrong L))
-faults (Place p ∷ L) = sym (or-right (any isWrong L))
+faults (Located p ∷ L) = sym (or-right (any isWrong L))
 faults (Absent ∷ L) = sym (or-right (any isWrong L))
 faults (Wrong ∷ L) = refl
 faults (PassedOver ∷ L) = faults L

@@ -3,15 +3,17 @@
 -- faulty; a refusal leaves both areas; each coordinate is +0 or the double nearest its decimal. Assumes nothing.
 use mathlib.Core.Path.{_≡_, refl, sym, ap, _∙_}
 use mathlib.Core.Bool.{Bool, true, false, cond, not, _&&_, _||_, true≢false}
+use mathlib.Core.Logic.{_⊎_, inl, inr}
 use mathlib.Core.List.{List, [], _∷_, _++_, map, map-append, append-assoc}
-use Prim.Native.Nat.{ℕ, suc, _<_}
+use Prim.Native.Nat.{ℕ, suc, _-_, _<_}
 use native.Mathlib.Omega.{arith}
-use lib.Dec.{eqb}
+use lib.Dec.{eqb, ltb}
 use lib.IntN.{ℤ, pos}
-use lib.ListN.{length, drop, length-map}
+use lib.ListN.{length, getD, drop, length-map}
 use lib.Ieee.{Float}
 use borrow.Author.Tests.{eqb-true, not-false}
 use Rattle.common.specs.Outcome.{area}
+use Rattle.common.specs.Text.{text}
 use Rattle.units.specs.declared.LeapSeconds.{LeapSeconds}
 use Rattle.units.specs.declared.Position.{Position}
 use Rattle.checks.specs.Checks.{any}
@@ -20,20 +22,21 @@ use Rattle.decimal.specs.declared.reading.Number.{Number}
 use Rattle.decimal.specs.declared.reading.Field.{Field}
 use Rattle.decimal.specs.declared.reading.Field.the-variants.{Holds, NoNumber}
 use Rattle.calendar.specs.declared.gregorian.Calendar.{Calendar}
-use Rattle.calendar.specs.declared.instants.Instant.{Instant}
-use Rattle.calendar.specs.declared.instants.Instant.the-variants.{At, Unreal, Beyond}
+use Rattle.calendar.specs.declared.instants.InstantAnswer.{InstantAnswer}
+use Rattle.calendar.specs.declared.instants.InstantAnswer.the-variants.{At, Unreal, Beyond}
 use Rattle.calendar.specs.Gregorian.{real}
-use Rattle.calendar.specs.Instants.{instantAnswer}
+use Rattle.calendar.specs.Instants.{instantOf}
 use Rattle.sp3.specs.declared.line.Line.{Line}
-use Rattle.sp3.specs.declared.line.Line.the-variants.{Epoch, Place, Absent, Wrong, PassedOver}
+use Rattle.sp3.specs.declared.line.Line.the-variants.{Epoch, Located, Absent, Wrong, PassedOver}
 use Rattle.sp3.specs.declared.header.TimeSystem.{TimeSystem}
 use Rattle.sp3.specs.declared.header.TimeSystem.the-variants.{Less, Other, Missing}
 use Rattle.sp3.specs.Lines.{lines, begins}
-use Rattle.sp3.specs.Header.{beginnings, headerLines, headed, systemOf}
-use Rattle.sp3.specs.Columns.{yearIn, monthIn, dayIn, hourIn, minuteIn, secondIn, xIn, yIn, zIn, numbered, coordinateEnd, absent, metresOf, placeBy, placeIn, calendarOf, epochAt, epochWithoutInstant, epochUnder, epochIn, lineOf}
-use Rattle.sp3.specs.Records.{Kept, body, isWrong, untimed, faulty, instantAfter, keptOf, kept, instantsOf, positionsOf}
+use Rattle.sp3.specs.Header.{beginnings, headerLines, headed, systemLine, systemFirst, systemLast, noLeaps, systemOf}
+use Rattle.sp3.specs.Columns.{yearIn, monthIn, dayIn, hourIn, minuteIn, secondIn, xIn, yIn, zIn, numbered, coordinateEnd, absent, metresOf, positionBy, positionIn, calendarOf, epochAt, epochWithoutInstant, epochUnder, epochIn, lineOf}
+use Rattle.sp3.specs.Records.{Kept, body, isWrong, isEpoch, untimed, faulty, instantAfter, keptOf, kept, instantsOf, positionsOf}
 use Rattle.sp3.specs.Entries.{said, isMissing, isOther, undescribed, unfit, sp3Refusal, sp3Instants, sp3Positions, recordsOf}
-use Rattle.sp3.specs.Rules.{placesBy, placesIn, places, lastInstant, recordsAfter, hasEpoch, Valued}
+use Rattle.sp3.specs.Rules.{positionsBy, positionsIn, satellitePositions, lastInstant, recordsAfter, Valued}
+use Rattle.sp3.proofs.Said.{by-tests}
 use Rattle.sp3.proofs.Faults.{or-right}
 use Rattle.sp3.proofs.Values.{coordinate-small, metres-zero, metres-other}
 
@@ -43,7 +46,7 @@ use Rattle.sp3.proofs.Values.{coordinate-small, metres-zero, metres-oth
 abbrev position : Kept → Position
 position k = k .position
 
-of-fields : (f g h : Field) (t : ℤ) → map position (keptOf (placeBy f g h) t) ≡ placesBy f g h
+of-fields : (f g h : Field) (t : ℤ) → map position (keptOf (positionBy f g h) t) ≡ positionsBy f g h
 of-fields NoNumber g h t = refl
 of-fields (Holds nx) NoNumber h t = refl
 of-fields (Holds nx) (Holds ny) NoNumber t = refl
@@ -52,7 +55,7 @@ of-fields (Holds nx) (Holds ny) (Holds nz) t = go (absent nx ny nz)
     p : Position
     p = record { x = metresOf nx; y = metresOf ny; z = metresOf nz }
 
-    go : (b : Bool) → map position (keptOf (cond b Absent (Place p)) t) ≡ cond b [] (p ∷ [])
+    go : (b : Bool) → map position (keptOf (cond b Absent (Located p)) t) ≡ cond b [] (p ∷ [])
     go true = refl
     go false = refl
 
@@ -60,7 +63,7 @@ of-fields (Holds nx) (Holds ny) (Holds nz) t = go (absent nx ny nz)
 abbrev None : ℤ → Line → Type 0
 None t l = keptOf l t ≡ []
 
-of-instant : (i : Instant) (t : ℤ) → None t (epochAt i)
+of-instant : (i : InstantAnswer) (t : ℤ) → None t (epochAt i)
 of-instant (At u) t = refl
 of-instant Unreal t = refl
 of-instant Beyond t = refl
@@ -73,7 +76,7 @@ of-real c t = go (real c)
     go false = refl
 
 of-calendar : (sys : TimeSystem) (c : Calendar) (t : ℤ) → None t (epochUnder sys c)
-of-calendar (Less leaps) c t = of-instant (instantAnswer c (leaps .0)) t
+of-calendar (Less leaps) c t = of-instant (instantOf c (leaps .0)) t
 of-calendar Other c t = of-real c t
 of-calendar Missing c t = of-real c t
 
@@ -87,34 +90,34 @@ of-epoch sys l t =
     of-number (yearIn l) _ t (λ a. of-number (monthIn l) _ t (λ b. of-number (dayIn l) _ t (λ c. of-number (hourIn l) _ t (λ d. of-number (minuteIn l) _ t (λ e. of-number (secondIn l) _ t (λ f.
     of-calendar sys (calendarOf a b c d e f) t))))))
 
-of-line : (sys : TimeSystem) (sat l : List ℕ) (t : ℤ) → map position (keptOf (lineOf sys sat l) t) ≡ placesIn sat l
-unfolding lineOf begins placeIn
+of-line : (sys : TimeSystem) (sat l : List ℕ) (t : ℤ) → map position (keptOf (lineOf sys sat l) t) ≡ positionsIn sat l
+unfolding lineOf begins positionIn
 of-line sys sat [] t = refl
 of-line sys sat (b ∷ l) t = go (eqb b 42) (eqb b 80) (begins sat l) refl refl
   where
     go : (u v w : Bool) → eqb b 42 ≡ u → eqb b 80 ≡ v
-        → map position (keptOf (cond (u && true) (epochIn sys (b ∷ l)) (cond (v && w) (placeIn (b ∷ l)) PassedOver)) t) ≡ cond (v && w) (placesBy (xIn (b ∷ l)) (yIn (b ∷ l)) (zIn (b ∷ l))) []
+        → map position (keptOf (cond (u && true) (epochIn sys (b ∷ l)) (cond (v && w) (positionIn (b ∷ l)) PassedOver)) t) ≡ cond (v && w) (positionsBy (xIn (b ∷ l)) (yIn (b ∷ l)) (zIn (b ∷ l))) []
     go true true w e f = absurd (let p = eqb-true b 42 e in let q = eqb-true b 80 f in omega arith)
     go true false w e f = ap (map position) (of-epoch sys (b ∷ l) t)
     go false true true e f = of-fields (xIn (b ∷ l)) (yIn (b ∷ l)) (zIn (b ∷ l)) t
     go false true false e f = refl
     go false false w e f = refl
 
-kept-places : (sys : TimeSystem) (sat : List ℕ) (ls : List (List ℕ)) (t : ℤ) → map position (kept t (map (lineOf sys sat) ls)) ≡ places sat ls
-unfolding kept places
-kept-places sys sat [] t = refl
-kept-places sys sat (l ∷ ls) t =
+kept-positions : (sys : TimeSystem) (sat : List ℕ) (ls : List (List ℕ)) (t : ℤ) → map position (kept t (map (lineOf sys sat) ls)) ≡ satellitePositions sat ls
+unfolding kept satellitePositions
+kept-positions sys sat [] t = refl
+kept-positions sys sat (l ∷ ls) t =
     let k = lineOf sys sat l in
     map-append position (keptOf k t) (kept (instantAfter k t) (map (lineOf sys sat) ls))
     ∙ ap (λ (P : List Position). P ++ map position (kept (instantAfter k t) (map (lineOf sys sat) ls))) (of-line sys sat l t)
-    ∙ ap (λ (P : List Position). placesIn sat l ++ P) (kept-places sys sat ls (instantAfter k t))
+    ∙ ap (λ (P : List Position). positionsIn sat l ++ P) (kept-positions sys sat ls (instantAfter k t))
 
 -- of a file: the lines behind the header, up to EOF
-pub file-places : (bs sat : List ℕ) (leaps : LeapSeconds) → map position (recordsOf bs sat leaps) ≡ places sat (body (drop headerLines (lines bs)))
-file-places bs sat leaps = kept-places (systemOf leaps (lines bs)) sat (body (drop headerLines (lines bs))) (pos 0)
+pub file-positions : (bs sat : List ℕ) (leaps : LeapSeconds) → map position (recordsOf bs sat leaps) ≡ satellitePositions sat (body (drop headerLines (lines bs)))
+file-positions bs sat leaps = kept-positions (systemOf leaps (lines bs)) sat (body (drop headerLines (lines bs))) (pos 0)
 
-pub file-count : (bs sat : List ℕ) (leaps : LeapSeconds) → length (recordsOf bs sat leaps) ≡ length (places sat (body (drop headerLines (lines bs))))
-file-count bs sat leaps = sym (length-map (recordsOf bs sat leaps) position) ∙ ap length (file-places bs sat leaps)
+pub file-count : (bs sat : List ℕ) (leaps : LeapSeconds) → length (recordsOf bs sat leaps) ≡ length (satellitePositions sat (body (drop headerLines (lines bs))))
+file-count bs sat leaps = sym (length-map (recordsOf bs sat leaps) position) ∙ ap length (file-positions bs sat leaps)
 
 -- ---- at which instant: that of the last epoch line before it
 
@@ -138,18 +141,18 @@ pub file-instants : (bs sat : List ℕ) (leaps : LeapSeconds) → recordsOf bs s
 unfolding lastInstant
 file-instants bs sat leaps = kept-after [] (said (systemOf leaps (lines bs)) sat (lines bs))
 
-pub kept-here : (A B : List Line) (p : Position) (t : ℤ) → kept t (A ++ Place p ∷ B) ≡ kept t A ++ record { instant = lastInstant t A; position = p } ∷ kept (lastInstant t A) B
+pub kept-here : (A B : List Line) (p : Position) (t : ℤ) → kept t (A ++ Located p ∷ B) ≡ kept t A ++ record { instant = lastInstant t A; position = p } ∷ kept (lastInstant t A) B
 unfolding kept
-kept-here A B p t = kept-append A (Place p ∷ B) t
+kept-here A B p t = kept-append A (Located p ∷ B) t
 
-pub last-epoch : (A B : List Line) (t u : ℤ) → hasEpoch B ≡ false → lastInstant t (A ++ Epoch (record { 0 = u }) ∷ B) ≡ u
-unfolding lastInstant hasEpoch
+pub last-epoch : (A B : List Line) (t u : ℤ) → any isEpoch B ≡ false → lastInstant t (A ++ Epoch (record { 0 = u }) ∷ B) ≡ u
+unfolding lastInstant any
 last-epoch [] B t u h = none B u h
   where
-    none : (B : List Line) (u : ℤ) → hasEpoch B ≡ false → lastInstant u B ≡ u
+    none : (B : List Line) (u : ℤ) → any isEpoch B ≡ false → lastInstant u B ≡ u
     none [] u h = refl
     none (Epoch v ∷ B) u h = absurd (true≢false h)
-    none (Place p ∷ B) u h = none B u h
+    none (Located p ∷ B) u h = none B u h
     none (Absent ∷ B) u h = none B u h
     none (Wrong ∷ B) u h = none B u h
     none (PassedOver ∷ B) u h = none B u h
@@ -160,7 +163,7 @@ start-unseen : (S : List Line) (t u : ℤ) → faulty S ≡ false → kept t S �
 unfolding any untimed kept
 start-unseen [] t u h = refl
 start-unseen (Epoch v ∷ S) t u h = refl
-start-unseen (Place p ∷ S) t u h = absurd (true≢false (sym (or-right (any isWrong S)) ∙ h))
+start-unseen (Located p ∷ S) t u h = absurd (true≢false (sym (or-right (any isWrong S)) ∙ h))
 start-unseen (Absent ∷ S) t u h = absurd (true≢false (sym (or-right (any isWrong S)) ∙ h))
 start-unseen (Wrong ∷ S) t u h = absurd (true≢false h)
 start-unseen (PassedOver ∷ S) t u h = start-unseen S t u h
@@ -189,13 +192,22 @@ module _ (bs sat : List ℕ) (leaps : LeapSeconds) (is : List ℤ) (ps : List Fl
       let p = none-of (not w) (isMissing (systemOf leaps (lines bs))) (faulty (said (systemOf leaps (lines bs)) sat (lines bs))) (passed .0) in
       (not-false w (p .0), p .1, p .2)
 
-  pub answered-system : (k : LeapSeconds) × (systemOf leaps (lines bs) ≡ Less k)
-  answered-system = by (systemOf leaps (lines bs)) refl (passed .1) (answered-faultless .1)
+  -- line 13's columns 10 to 12, and beyond
+  abbrev named : List ℕ
+  named = drop (systemFirst - 1) (getD (lines bs) (systemLine - 1) [])
+
+  pub answered-system : ((begins (text "UTC") named ≡ true) × (systemOf leaps (lines bs) ≡ Less noLeaps)) ⊎ ((begins (text "GPS") named ≡ true) × (systemOf leaps (lines bs) ≡ Less leaps))
+  answered-system = by (ltb (length l) systemLast) (begins (text "UTC") named) (begins (text "GPS") named) refl refl (by-tests leaps l _ _ _ refl refl refl)
     where
-      by : (s : TimeSystem) → systemOf leaps (lines bs) ≡ s → isOther s ≡ false → isMissing s ≡ false → (k : LeapSeconds) × (systemOf leaps (lines bs) ≡ Less k)
-      by (Less k) e u m = (k, e)
-      by Other e u m = absurd (true≢false u)
-      by Missing e u m = absurd (true≢false m)
+      l : List ℕ
+      l = getD (lines bs) (systemLine - 1) []
+
+      by : (t u v : Bool) → begins (text "UTC") named ≡ u → begins (text "GPS") named ≡ v → systemOf leaps (lines bs) ≡ cond t Missing (cond u (Less noLeaps) (cond v (Less leaps) Other))
+          → ((begins (text "UTC") named ≡ true) × (systemOf leaps (lines bs) ≡ Less noLeaps)) ⊎ ((begins (text "GPS") named ≡ true) × (systemOf leaps (lines bs) ≡ Less leaps))
+      by true u v e f g = absurd (true≢false (sym (ap isMissing g) ∙ answered-faultless .1))
+      by false true v e f g = inl (e, g)
+      by false false true e f g = inr (f, g)
+      by false false false e f g = absurd (true≢false (sym (ap isOther g) ∙ passed .1))
 
   pub answered-instants : (t u : ℤ) → kept t (said (systemOf leaps (lines bs)) sat (lines bs)) ≡ kept u (said (systemOf leaps (lines bs)) sat (lines bs))
   answered-instants t u = start-unseen (said (systemOf leaps (lines bs)) sat (lines bs)) t u (answered-faultless .2)

@@ -14,7 +14,7 @@ use Rattle.sp3.specs.declared.header.TimeSystem.{TimeSystem}
 use Rattle.sp3.specs.declared.header.TimeSystem.the-variants.{Less, Other, Missing}
 use Rattle.common.specs.Text.{text}
 use Rattle.sp3.specs.Lines.{begins}
-use Rattle.sp3.specs.Columns.{epochIn, placeIn, lineOf}
+use Rattle.sp3.specs.Columns.{epochIn, positionIn, lineOf}
 use Rattle.sp3.specs.Header.{noLeaps, systemIn}
 use Rattle.sp3.proofs.Cursor.{part}
 
@@ -28,11 +28,11 @@ module _ (sys : TimeSystem) (sat : List ℕ) where
   empty-line [] h = refl
   empty-line (b ∷ l) h = absurd (omega arith)
 
-  by-first : (b : ℕ) (l : List ℕ) (u v : Bool) → eqb b 42 ≡ u → eqb b 80 ≡ v → lineOf sys sat (b ∷ l) ≡ cond (u && true) (epochIn sys (b ∷ l)) (cond (v && begins sat l) (placeIn (b ∷ l)) PassedOver)
+  by-first : (b : ℕ) (l : List ℕ) (u v : Bool) → eqb b 42 ≡ u → eqb b 80 ≡ v → lineOf sys sat (b ∷ l) ≡ cond (u && true) (epochIn sys (b ∷ l)) (cond (v && begins sat l) (positionIn (b ∷ l)) PassedOver)
   unfolding lineOf begins
   by-first b l u v e f =
-      ap (λ (w : Bool). cond (w && true) (epochIn sys (b ∷ l)) (cond (eqb b 80 && begins sat l) (placeIn (b ∷ l)) PassedOver)) e
-      ∙ ap (λ (w : Bool). cond (u && true) (epochIn sys (b ∷ l)) (cond (w && begins sat l) (placeIn (b ∷ l)) PassedOver)) f
+      ap (λ (w : Bool). cond (w && true) (epochIn sys (b ∷ l)) (cond (eqb b 80 && begins sat l) (positionIn (b ∷ l)) PassedOver)) e
+      ∙ ap (λ (w : Bool). cond (u && true) (epochIn sys (b ∷ l)) (cond (w && begins sat l) (positionIn (b ∷ l)) PassedOver)) f
 
   pub epoch-line : (l : List ℕ) → 0 < length l → getD l 0 0 ≡ 42 → epochIn sys l ≡ lineOf sys sat l
   epoch-line [] h e = absurd (omega arith)
@@ -42,12 +42,12 @@ module _ (sys : TimeSystem) (sat : List ℕ) where
   other-line [] h e f = absurd (omega arith)
   other-line (b ∷ l) h e f = sym (by-first b l false false (ne-eqb b 42 e) (ne-eqb b 80 f))
 
-  pub place-line : (l : List ℕ) → 0 < length l → getD l 0 0 ≡ 80 → cond (begins sat (drop 1 l)) (placeIn l) PassedOver ≡ lineOf sys sat l
-  place-line [] h e = absurd (omega arith)
-  place-line (b ∷ l) h e = sym (by-first b l false true (ne-eqb b 42 (λ q. (let z : _≡_ {A = ℕ} 80 42 = sym e ∙ q in omega arith))) (eq-eqb b 80 e))
+  pub position-line : (l : List ℕ) → 0 < length l → getD l 0 0 ≡ 80 → cond (begins sat (drop 1 l)) (positionIn l) PassedOver ≡ lineOf sys sat l
+  position-line [] h e = absurd (omega arith)
+  position-line (b ∷ l) h e = sym (by-first b l false true (ne-eqb b 42 (λ q. (let z : _≡_ {A = ℕ} 80 42 = sym e ∙ q in omega arith))) (eq-eqb b 80 e))
 
 module _ (leaps : LeapSeconds) (l : List ℕ) where
-  by-tests : (t u v : Bool) → ltb (length l) 12 ≡ t → begins (text "UTC") (drop 9 l) ≡ u → begins (text "GPS") (drop 9 l) ≡ v
+  pub by-tests : (t u v : Bool) → ltb (length l) 12 ≡ t → begins (text "UTC") (drop 9 l) ≡ u → begins (text "GPS") (drop 9 l) ≡ v
       → systemIn leaps l ≡ cond t Missing (cond u (Less noLeaps) (cond v (Less leaps) Other))
   unfolding systemIn
   by-tests t u v d e f =

@@ -9,7 +9,7 @@ use lib.IntN.{ℤ, pos}
 use lib.ListN.{length, drop, length-append, length-map}
 use lib.Ieee.{Float}
 use Rattle.sp3.specs.declared.line.Line.{Line}
-use Rattle.sp3.specs.declared.line.Line.the-variants.{Epoch, Place, Absent, Wrong, PassedOver}
+use Rattle.sp3.specs.declared.line.Line.the-variants.{Epoch, Located, Absent, Wrong, PassedOver}
 use Rattle.sp3.specs.declared.header.TimeSystem.{TimeSystem}
 use Rattle.sp3.specs.declared.records.Looked.the-variants.{Found, Undescribed}
 use Rattle.common.specs.Text.{text}
@@ -45,7 +45,7 @@ module _ (sys : TimeSystem) (sat bs : List ℕ) (from : ℕ) where
 -- ---- counting: how many are kept does not depend on the instants
 one-count : (l : Line) (t u : ℤ) → length (keptOf l t) ≡ length (keptOf l u)
 one-count (Epoch v) t u = refl
-one-count (Place p) t u = refl
+one-count (Located p) t u = refl
 one-count Absent t u = refl
 one-count Wrong t u = refl
 one-count PassedOver t u = refl

@@ -19,7 +19,7 @@ use Rattle.sp3.specs.declared.header.TimeSystem.the-variants.{Less}
 use Rattle.common.specs.Text.{text}
 use Rattle.sp3.specs.Lines.{lineFeed, lines, begins}
 use Rattle.sp3.specs.Header.{headed, systemIn}
-use Rattle.sp3.specs.Columns.{epochIn, placeIn, lineOf}
+use Rattle.sp3.specs.Columns.{epochIn, positionIn, lineOf}
 use Rattle.sp3.specs.Records.{Kept, body, untimed, kept}
 use Rattle.sp3.specs.Entries.{recordsOf, sp3Refusal}
 
@@ -53,19 +53,23 @@ rows =
     ∷ "PG05"
     ∷ []
 
--- the same rows under three time systems, under a line 13 that is too short, and behind a P line of the satellite
+-- the same rows in GPS time
 abbrev inGps : List String
 inGps = under "%c G  cc GPS ccc" rows
 
+-- in UTC
 abbrev inUtc : List String
 inUtc = under "%c G  cc UTC" rows
 
+-- in another time system
 abbrev inBdt : List String
 inBdt = under "%c C  cc BDT ccc" rows
 
+-- under a line 13 that is too short
 abbrev inNone : List String
 inNone = under "%c G  cc GP" rows
 
+-- behind a P line of the satellite
 abbrev early : List String
 early = under "%c C  cc BDT ccc" ("PG05      0.000000      0.000000      0.000000" ∷ rows)
 
@@ -82,7 +86,7 @@ pub twoKept : recordsOf (file inGps) (text "G05") leaps
     ≡ kept4 (pos 1704067182000000000) (fin false 51875 (pos 9)) (fin true 1 (pos 0)) nought
     ∷ kept4 (pos 1704068082500000000) (fin true 1152921504606847 (negsuc 59)) (fin false 375 (pos 2)) nought
     ∷ []
-unfolding lines begins systemIn body lineOf epochIn placeIn kept
+unfolding lines begins systemIn body lineOf epochIn positionIn kept
     afterBlanks digitsBehind someDigits signedDigits withDecimals leap sum daysOfYears span climb size odd units round
 twoKept = refl
 
@@ -94,7 +98,7 @@ refusedAt ss satellite n = sp3Refusal (file ss) (text satellite) leaps (replicat
 pub refusals : (refusedAt inGps "G05" 6 ≡ 0) × (refusedAt inGps "G05" 5 ≡ 13) × (refusedAt inUtc "G05" 6 ≡ 0) × (refusedAt inUtc "G06" 6 ≡ 13)
     × (refusedAt inBdt "G05" 6 ≡ 12) × (refusedAt inNone "G05" 6 ≡ 11) × (refusedAt early "G05" 6 ≡ 11)
     × (refusedAt ("#c" ∷ "##" ∷ "EOF" ∷ []) "G05" 6 ≡ 11)
-unfolding lines begins systemIn headed body lineOf epochIn placeIn any untimed firstFailing kept
+unfolding lines begins systemIn headed body lineOf epochIn positionIn any untimed firstFailing kept
     afterBlanks digitsBehind someDigits signedDigits withDecimals leap sum daysOfYears span climb size odd units round
 refusals = (refl, refl, refl, refl, refl, refl, refl, refl)
 
@@ -104,10 +108,10 @@ ofG05 s = lineOf (Less leaps) (text "G05") (text s)
 
 -- the 30th of February, a second of 60, an instant beyond check 4, a point one column early, a blank behind the minus, a number cut short, no number
 pub wrong : (ofG05 "*  2024  2 30  0  0  0.00000000" ≡ Wrong) × (ofG05 "*  2024  1  1  0  0 60.00000000" ≡ Wrong)
-    × (ofG05 "*  2097  1  1  0  0  0.00000000" ≡ Wrong) × (ofG05 "PG05      .0000000      0.000000      0.000000" ≡ Wrong)
+    × (ofG05 "*  2097  1  1  0  0  0.00000000" ≡ Wrong) × (ofG05 "PG05     1.0000000      0.000000      0.000000" ≡ Wrong)
     × (ofG05 "PG05    - 1.000000      0.000000      0.000000" ≡ Wrong) × (ofG05 "PG05      1.000000      0.000000      0.00000" ≡ Wrong)
     × (ofG05 "PG05" ≡ Wrong)
-unfolding begins lineOf epochIn placeIn afterBlanks digitsBehind someDigits signedDigits withDecimals leap sum daysOfYears span climb size odd units round
+unfolding begins lineOf epochIn positionIn afterBlanks digitsBehind someDigits signedDigits withDecimals leap sum daysOfYears span climb size odd units round
 wrong = (refl, refl, refl, refl, refl, refl, refl)
 
 -- a P line too short for a satellite, another satellite's, an empty line, and a correlation line

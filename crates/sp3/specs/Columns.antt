@@ -12,12 +12,12 @@ use Rattle.decimal.specs.declared.reading.Field.{Field}
 use Rattle.decimal.specs.declared.reading.Field.the-variants.{Holds, NoNumber}
 use Rattle.decimal.specs.Reading.{wholeOf, decimalOf}
 use Rattle.calendar.specs.declared.gregorian.Calendar.{Calendar}
-use Rattle.calendar.specs.declared.instants.Instant.{Instant}
-use Rattle.calendar.specs.declared.instants.Instant.the-variants.{At, Unreal, Beyond}
+use Rattle.calendar.specs.declared.instants.InstantAnswer.{InstantAnswer}
+use Rattle.calendar.specs.declared.instants.InstantAnswer.the-variants.{At, Unreal, Beyond}
 use Rattle.calendar.specs.Gregorian.{real}
-use Rattle.calendar.specs.Instants.{instantAnswer}
+use Rattle.calendar.specs.Instants.{instantOf}
 use Rattle.sp3.specs.declared.line.Line.{Line}
-use Rattle.sp3.specs.declared.line.Line.the-variants.{Epoch, Place, Absent, Wrong, PassedOver}
+use Rattle.sp3.specs.declared.line.Line.the-variants.{Epoch, Located, Absent, Wrong, PassedOver}
 use Rattle.sp3.specs.declared.header.TimeSystem.{TimeSystem}
 use Rattle.sp3.specs.declared.header.TimeSystem.the-variants.{Less, Other, Missing}
 use Rattle.common.specs.Text.{text}
@@ -41,44 +41,54 @@ numbered (Holds n) f = f n
 numbered NoNumber f = Wrong
 
 -- ---- the columns of an epoch line
+
+-- its year
 abbrev pub yearIn : List ℕ → Field
 yearIn = whole 4 7
 
+-- its month
 abbrev pub monthIn : List ℕ → Field
 monthIn = whole 9 10
 
+-- its day
 abbrev pub dayIn : List ℕ → Field
 dayIn = whole 12 13
 
+-- its hour
 abbrev pub hourIn : List ℕ → Field
 hourIn = whole 15 16
 
+-- its minute
 abbrev pub minuteIn : List ℕ → Field
 minuteIn = whole 18 19
 
--- with eight decimals
+-- its second, with eight decimals
 abbrev pub secondIn : List ℕ → Field
 secondIn = pointed false 21 23 31
 
 -- ---- the columns of a P line, in kilometres with six decimals: "at coordinates perhaps a minus"
+
+-- its x
 abbrev pub xIn : List ℕ → Field
 xIn = pointed true 5 12 18
 
+-- its y
 abbrev pub yIn : List ℕ → Field
 yIn = pointed true 19 26 32
 
+-- its z
 abbrev pub zIn : List ℕ → Field
 zIn = pointed true 33 40 46
 
 -- ---- an epoch line
 
--- hundred-millionths of a second, the unit of eight decimals, in a second
-abbrev pub secondUnits : ℕ
-secondUnits = 100000000
+-- steps of the eighth decimal, hundred-millionths of a second, in a second
+abbrev pub stepsInSecond : ℕ
+stepsInSecond = 100000000
 
--- nanoseconds in such a unit
-abbrev pub unitNanoseconds : ℕ
-unitNanoseconds = 10
+-- nanoseconds in such a step
+abbrev pub nanosecondsInStep : ℕ
+nanosecondsInStep = 10
 
 -- a date and time by the numbers of its columns
 abbrev pub calendarOf : Number → Number → Number → Number → Number → Number → Calendar
@@ -88,12 +98,12 @@ calendarOf year month day hour minute second = record {
   day = day .digits;
   hour = hour .digits;
   minute = minute .digits;
-  second = second .digits / secondUnits;
-  nanosecond = second .digits % secondUnits * unitNanoseconds;
+  second = second .digits / stepsInSecond;
+  nanosecond = second .digits % stepsInSecond * nanosecondsInStep;
 }
 
 -- "An epoch of no real date and time …, or whose instant … is beyond check 4, counts as not by the description"
-abbrev pub epochAt : Instant → Line
+abbrev pub epochAt : InstantAnswer → Line
 epochAt (At t) = Epoch t
 epochAt Unreal = Wrong
 epochAt Beyond = Wrong
@@ -104,7 +114,7 @@ epochWithoutInstant c = cond (real c) (Epoch (record { 0 = pos 0 })) Wrong
 
 -- a date and time under a time system
 abbrev pub epochUnder : TimeSystem → Calendar → Line
-epochUnder (Less leaps) c = epochAt (instantAnswer c (leaps .0))
+epochUnder (Less leaps) c = epochAt (instantOf c (leaps .0))
 epochUnder Other c = epochWithoutInstant c
 epochUnder Missing c = epochWithoutInstant c
 
@@ -120,37 +130,37 @@ epochIn system l = epochBy system (yearIn l) (monthIn l) (dayIn l) (hourIn l) (m
 
 -- ---- a P line
 
--- millionths of a kilometre, the unit of six decimals, in a metre
-abbrev pub metreUnits : ℕ
-metreUnits = 1000
+-- steps of the sixth decimal, millionths of a kilometre, in a metre
+abbrev pub stepsInMetre : ℕ
+stepsInMetre = 1000
 
--- 13 digits, all that a coordinate's columns hold, are fewer millionths of a kilometre than this
+-- a coordinate's columns hold 13 digits, so fewer steps than this
 abbrev pub coordinateEnd : ℕ
 coordinateEnd = 10000000000000
 
 -- "Kilometres become metres as the double nearest the decimal value, a zero as +0"
 abbrev pub metresOf : Number → Float
-metresOf n = cond (eqb (n .digits) 0) nought (round binary64 (n .negative) (n .digits) metreUnits)
+metresOf n = cond (eqb (n .digits) 0) nought (round binary64 (n .negative) (n .digits) stepsInMetre)
 
 -- "a position of three zeros"
 abbrev pub absent : Number → Number → Number → Bool
 absent x y z = eqb (x .digits) 0 && eqb (y .digits) 0 && eqb (z .digits) 0
 
 -- it "is absent and left out"
-abbrev pub placeOf : Number → Number → Number → Line
-placeOf x y z = cond (absent x y z) Absent (Place (record { x = metresOf x; y = metresOf y; z = metresOf z }))
+abbrev pub positionOf : Number → Number → Number → Line
+positionOf x y z = cond (absent x y z) Absent (Located (record { x = metresOf x; y = metresOf y; z = metresOf z }))
 
 -- by its three fields
-abbrev pub placeBy : Field → Field → Field → Line
-placeBy x y z = numbered x (λ m. numbered y (λ n. numbered z (λ o. placeOf m n o)))
+abbrev pub positionBy : Field → Field → Field → Line
+positionBy x y z = numbered x (λ m. numbered y (λ n. numbered z (λ o. positionOf m n o)))
 
 -- what a P line of the satellite says
-unfoldable pub placeIn : List ℕ → Line
-placeIn l = placeBy (xIn l) (yIn l) (zIn l)
+unfoldable pub positionIn : List ℕ → Line
+positionIn l = positionBy (xIn l) (yIn l) (zIn l)
 
 -- ---- a line: "every line with an asterisk first", "every P line of the satellite"; "other lines … are passed over"
 unfoldable pub lineOf : TimeSystem → List ℕ → List ℕ → Line
-unfolding epochIn placeIn begins
+unfolding epochIn positionIn begins
 lineOf system satellite l =
     cond (begins (text "*") l) (epochIn system l)
-    (cond (begins (text "P" ++ satellite) l) (placeIn l) PassedOver)
+    (cond (begins (text "P" ++ satellite) l) (positionIn l) PassedOver)

@@ -24,7 +24,7 @@ use Rattle.sp3.specs.Records.{Kept, body, faulty, kept, instantsOf, posi
 abbrev pub said : TimeSystem → List ℕ → List (List ℕ) → List Line
 said system satellite ls = map (lineOf system satellite) (body (drop headerLines ls))
 
--- the records kept of a file's lines; where 11 refuses nothing the first of them stands behind an epoch line, so that 0 is the instant of none
+-- the records kept of a file's lines; where 11 does not refuse, each stands behind an epoch line, so that this 0 is no record's instant
 abbrev pub recordsIn : TimeSystem → List ℕ → List (List ℕ) → List Kept
 recordsIn system satellite ls = kept (pos 0) (said system satellite ls)
 

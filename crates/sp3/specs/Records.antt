@@ -7,7 +7,7 @@ use lib.Ieee.{Float}
 use Rattle.units.specs.declared.Position.{Position}
 use Rattle.checks.specs.Checks.{any}
 use Rattle.sp3.specs.declared.line.Line.{Line}
-use Rattle.sp3.specs.declared.line.Line.the-variants.{Epoch, Place, Absent, Wrong, PassedOver}
+use Rattle.sp3.specs.declared.line.Line.the-variants.{Epoch, Located, Absent, Wrong, PassedOver}
 use Rattle.common.specs.Text.{text}
 use Rattle.sp3.specs.Lines.{begins}
 
@@ -20,7 +20,7 @@ body (l ∷ ls) = cond (begins (text "EOF") l) [] (l ∷ body ls)
 -- whether a line is not by the description
 abbrev pub isWrong : Line → Bool
 isWrong (Epoch t) = false
-isWrong (Place p) = false
+isWrong (Located p) = false
 isWrong Absent = false
 isWrong Wrong = true
 isWrong PassedOver = false
@@ -28,7 +28,7 @@ isWrong PassedOver = false
 -- whether it is an epoch line by the description
 abbrev pub isEpoch : Line → Bool
 isEpoch (Epoch t) = true
-isEpoch (Place p) = false
+isEpoch (Located p) = false
 isEpoch Absent = false
 isEpoch Wrong = false
 isEpoch PassedOver = false
@@ -36,7 +36,7 @@ isEpoch PassedOver = false
 -- whether it is a P line of the satellite by the description
 abbrev pub isPosition : Line → Bool
 isPosition (Epoch t) = false
-isPosition (Place p) = true
+isPosition (Located p) = true
 isPosition Absent = true
 isPosition Wrong = false
 isPosition PassedOver = false
@@ -58,7 +58,7 @@ pub record Kept : Type 0 where
 -- the instant of an epoch line, and behind any other line the one before it
 abbrev pub instantAfter : Line → ℤ → ℤ
 instantAfter (Epoch u) t = u .0
-instantAfter (Place p) t = t
+instantAfter (Located p) t = t
 instantAfter Absent t = t
 instantAfter Wrong t = t
 instantAfter PassedOver t = t
@@ -66,7 +66,7 @@ instantAfter PassedOver t = t
 -- the record of one line, where t is the instant of the last epoch line
 abbrev pub keptOf : Line → ℤ → List Kept
 keptOf (Epoch u) t = []
-keptOf (Place p) t = record { instant = t; position = p } ∷ []
+keptOf (Located p) t = record { instant = t; position = p } ∷ []
 keptOf Absent t = []
 keptOf Wrong t = []
 keptOf PassedOver t = []

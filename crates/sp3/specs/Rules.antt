@@ -1,21 +1,22 @@
 -- What the laws of the reader speak of: the lines joined again, which lines have a position to keep, by the columns alone, and the last epoch line.
 use Prim.Native.Nat.{ℕ, _<_}
 use mathlib.Core.Path.{_≡_}
-use mathlib.Core.Bool.{Bool, true, false, not, cond, _&&_, _||_}
+use mathlib.Core.Bool.{Bool, cond}
 use mathlib.Core.List.{List, [], _∷_, _++_}
 use lib.Dec.{eqb}
 use lib.IntN.{ℤ, pos}
 use lib.Ieee.{binary64, round}
 use Rattle.common.specs.Numbers.{nought}
 use Rattle.units.specs.declared.Position.{Position}
+use Rattle.checks.specs.Checks.{any}
 use Rattle.decimal.specs.declared.reading.Number.{Number}
 use Rattle.decimal.specs.declared.reading.Field.{Field}
 use Rattle.decimal.specs.declared.reading.Field.the-variants.{Holds, NoNumber}
 use Rattle.sp3.specs.declared.line.Line.{Line}
 use Rattle.common.specs.Text.{text}
 use Rattle.sp3.specs.Lines.{lineFeed, begins}
-use Rattle.sp3.specs.Columns.{coordinateEnd, absent, metresOf, metreUnits, xIn, yIn, zIn}
-use Rattle.sp3.specs.Records.{Kept, isEpoch, instantAfter, keptOf}
+use Rattle.sp3.specs.Columns.{coordinateEnd, absent, metresOf, stepsInMetre, xIn, yIn, zIn}
+use Rattle.sp3.specs.Records.{Kept, instantAfter, keptOf}
 
 -- lines joined again, a line feed behind each
 unfoldable pub joined : List (List ℕ) → List ℕ
@@ -32,31 +33,25 @@ abbrev pub closed : List ℕ → List ℕ
 closed [] = []
 closed (b ∷ bs) = b ∷ closedAfter b bs
 
--- whether a line has no line feed
-unfoldable pub withoutFeed : List ℕ → Bool
-withoutFeed [] = true
-withoutFeed (b ∷ l) = not (eqb b lineFeed) && withoutFeed l
-
--- whether no line has one
-unfoldable pub allWithoutFeed : List (List ℕ) → Bool
-allWithoutFeed [] = true
-allWithoutFeed (l ∷ ls) = withoutFeed l && allWithoutFeed ls
+-- whether a line has a line feed
+abbrev pub hasFeed : List ℕ → Bool
+hasFeed l = any (λ b. eqb b lineFeed) l
 
 -- the position of three coordinates that are numbers and not all zero
-abbrev pub placesBy : Field → Field → Field → List Position
-placesBy NoNumber fy fz = []
-placesBy (Holds nx) NoNumber fz = []
-placesBy (Holds nx) (Holds ny) NoNumber = []
-placesBy (Holds nx) (Holds ny) (Holds nz) = cond (absent nx ny nz) [] (record { x = metresOf nx; y = metresOf ny; z = metresOf nz } ∷ [])
+abbrev pub positionsBy : Field → Field → Field → List Position
+positionsBy NoNumber fy fz = []
+positionsBy (Holds nx) NoNumber fz = []
+positionsBy (Holds nx) (Holds ny) NoNumber = []
+positionsBy (Holds nx) (Holds ny) (Holds nz) = cond (absent nx ny nz) [] (record { x = metresOf nx; y = metresOf ny; z = metresOf nz } ∷ [])
 
 -- that of a P line of the satellite
-abbrev pub placesIn : List ℕ → List ℕ → List Position
-placesIn satellite l = cond (begins (text "P" ++ satellite) l) (placesBy (xIn l) (yIn l) (zIn l)) []
+abbrev pub positionsIn : List ℕ → List ℕ → List Position
+positionsIn satellite l = cond (begins (text "P" ++ satellite) l) (positionsBy (xIn l) (yIn l) (zIn l)) []
 
 -- those of all lines, in the file's order
-unfoldable pub places : List ℕ → List (List ℕ) → List Position
-places satellite [] = []
-places satellite (l ∷ ls) = placesIn satellite l ++ places satellite ls
+unfoldable pub satellitePositions : List ℕ → List (List ℕ) → List Position
+satellitePositions satellite [] = []
+satellitePositions satellite (l ∷ ls) = positionsIn satellite l ++ satellitePositions satellite ls
 
 -- the instant of the last epoch line, or t where there is none
 unfoldable pub lastInstant : ℤ → List Line → ℤ
@@ -68,13 +63,8 @@ unfoldable pub recordsAfter : List Line → List Line → List Kept
 recordsAfter A [] = []
 recordsAfter A (l ∷ B) = keptOf l (lastInstant (pos 0) A) ++ recordsAfter (A ++ (l ∷ [])) B
 
--- whether there is an epoch line
-unfoldable pub hasEpoch : List Line → Bool
-hasEpoch [] = false
-hasEpoch (l ∷ ls) = isEpoch l || hasEpoch ls
-
--- a coordinate's number, in millionths of a kilometre: it is below 10 ^ 13, and it is kept as +0 or as the double nearest a thousandth of it in metres
+-- a coordinate's number, in millionths of a kilometre: it has 13 digits at most, and it is kept as +0 or as the double nearest a thousandth of it
 pub record Valued (n : Number) : Type 0 where
   pub small : n .digits < coordinateEnd
   pub zero : n .digits ≡ 0 → metresOf n ≡ nought
-  pub nearest : (n .digits ≡ 0 → ⊥) → metresOf n ≡ round binary64 (n .negative) (n .digits) metreUnits
+  pub nearest : (n .digits ≡ 0 → ⊥) → metresOf n ≡ round binary64 (n .negative) (n .digits) stepsInMetre

@@ -8,7 +8,7 @@ use lib.ListN.{length, take, drop}
 use lib.Ieee.{Float}
 use Rattle.sp3.specs.declared.header.TimeSystem.{TimeSystem}
 use Rattle.sp3.specs.declared.line.Line.{Line}
-use Rattle.sp3.specs.declared.line.Line.the-variants.{Epoch, Place, Absent, Wrong, PassedOver}
+use Rattle.sp3.specs.declared.line.Line.the-variants.{Epoch, Located, Absent, Wrong, PassedOver}
 use Rattle.sp3.specs.declared.records.Looked.{Looked}
 use Rattle.sp3.specs.declared.records.Looked.the-variants.{Found, Undescribed}
 use Rattle.sp3.specs.Lines.{lineFeed, lines}
@@ -28,15 +28,15 @@ putAt at values old = take at old ++ (values ++ drop (at + length values) old)
 -- whether an epoch line has stood, at a line or before it
 abbrev pub begun : Line → Bool → Bool
 begun (Epoch t) b = true
-begun (Place p) b = b
+begun (Located p) b = b
 begun Absent b = b
 begun Wrong b = b
 begun PassedOver b = b
 
--- whether a line is not by the description, where b says whether an epoch line stood before it
+-- whether a line is not by the description, or is a P line of the satellite and no epoch line stood before it, which b says
 abbrev pub faultAt : Line → Bool → Bool
 faultAt (Epoch t) b = false
-faultAt (Place p) b = not b
+faultAt (Located p) b = not b
 faultAt Absent b = not b
 faultAt Wrong b = true
 faultAt PassedOver b = false

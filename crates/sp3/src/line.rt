@@ -2,34 +2,34 @@
 use crate::header::TimeSystem;
 use crate::text::begins;
 use calendar::Calendar;
-use calendar::Instant;
+use calendar::InstantAnswer;
 use decimal::Field;
 use decimal::Number;
 use units::Nanoseconds;
 use units::Position;
 ghost use mathlib.Core.Path.{_≡_};
 ghost use Prim.Native.Nat.{_≤_, _<_};
-ghost use Rattle.sp3.specs.Columns.{whole, pointed, epochAt, epochWithoutInstant, epochUnder, epochIn, metresOf, absent, placeOf, placeIn, lineOf};
-ghost use Rattle.sp3.specs.Columns.{coordinateEnd};
+ghost use Rattle.sp3.specs.Columns.{whole, pointed, epochAt, epochWithoutInstant, epochUnder, epochIn, lineOf};
+ghost use Rattle.sp3.specs.Columns.{coordinateEnd, metresOf, absent, positionOf, positionIn};
 
 // An epoch by its instant, a position of the satellite, that the position is absent, something that is not by the description, or nothing that is
 // looked at.
 pub(crate) enum Line {
     Epoch(Nanoseconds),
-    Place(Position),
+    Located(Position),
     Absent,
     Wrong,
     PassedOver,
 }
 
-// Hundred-millionths of a second in a second.
-const SECOND_UNITS: u64 = 100_000_000;
+// Steps of the eighth decimal in a second.
+const STEPS_IN_SECOND: u64 = 100_000_000;
 
-// Nanoseconds in a hundred-millionth of a second.
-const UNIT_NANOSECONDS: u64 = 10;
+// Nanoseconds in such a step.
+const NANOSECONDS_IN_STEP: u64 = 10;
 
-// Millionths of a kilometre in a metre.
-const METRE_UNITS: f64 = 1000.0;
+// Steps of the sixth decimal of a kilometre in a metre.
+const STEPS_IN_METRE: f64 = 1000.0;
 
 // The whole number in the columns from first to last.
 fn whole_in(line: &[u8], first: usize, last: usize) -> Field
@@ -56,13 +56,13 @@ fn pointed_in(line: &[u8], first: usize, point: usize, last: usize, signed: bool
 }
 
 // The epoch of an instant.
-fn epoch_at(instant: Instant) -> Line
+fn epoch_at(instant: InstantAnswer) -> Line
     ensures { λ r. ⌜ r ≡ epochAt instant ⌝ }
 {
     match instant {
-        Instant::At(t) => Line::Epoch(t),
-        Instant::Unreal => Line::Wrong,
-        Instant::Beyond => Line::Wrong,
+        InstantAnswer::At(t) => Line::Epoch(t),
+        InstantAnswer::Unreal => Line::Wrong,
+        InstantAnswer::Beyond => Line::Wrong,
     }
 }
 
@@ -115,13 +115,13 @@ fn epoch_in(line: &[u8], system: TimeSystem) -> Line
         day: day.digits as u8,
         hour: hour.digits as u8,
         minute: minute.digits as u8,
-        second: (second.digits / SECOND_UNITS) as u8,
-        nanosecond: (second.digits % SECOND_UNITS * UNIT_NANOSECONDS) as u32,
+        second: (second.digits / STEPS_IN_SECOND) as u8,
+        nanosecond: (second.digits % STEPS_IN_SECOND * NANOSECONDS_IN_STEP) as u32,
     };
     epoch_under(system, c)
 }
 
-// A coordinate in metres, of its millionths of a kilometre: so few are a double themselves, and one division rounds.
+// A coordinate in metres, of its millionths of a kilometre: fewer than 2^53 are a double exactly, so only the division rounds.
 fn metres_of(n: Number) -> f64
     requires { ⌜ n .digits < coordinateEnd ⌝ }
     ensures { λ r. ⌜ r ≡ metresOf n ⌝ }
@@ -129,7 +129,7 @@ fn metres_of(n: Number) -> f64
     if n.digits == 0 {
         return 0.0;
     }
-    let x = float::nearest(n.digits as i64) / METRE_UNITS;
+    let x = float::nearest(n.digits as i64) / STEPS_IN_METRE;
     if n.negative { -x } else { x }
 }
 
@@ -147,14 +147,14 @@ fn is_absent(x: Number, y: Number, z: Number) -> bool
 }
 
 // A position by its coordinates.
-fn place_of(x: Number, y: Number, z: Number) -> Line
+fn position_of(x: Number, y: Number, z: Number) -> Line
     requires { ⌜ (x .digits < coordinateEnd) × (y .digits < coordinateEnd) × (z .digits < coordinateEnd) ⌝ }
-    ensures { λ r. ⌜ r ≡ placeOf x y z ⌝ }
+    ensures { λ r. ⌜ r ≡ positionOf x y z ⌝ }
 {
     if is_absent(x, y, z) {
         return Line::Absent;
     }
-    Line::Place(Position {
+    Line::Located(Position {
         x: metres_of(x),
         y: metres_of(y),
         z: metres_of(z),
@@ -162,8 +162,8 @@ fn place_of(x: Number, y: Number, z: Number) -> Line
 }
 
 // What a P line of the satellite says.
-fn place_in(line: &[u8]) -> Line
-    ensures { λ r. ⌜ r ≡ placeIn (now (line .entry)) ⌝ }
+fn position_in(line: &[u8]) -> Line
+    ensures { λ r. ⌜ r ≡ positionIn (now (line .entry)) ⌝ }
 {
     let Field::Holds(x) = pointed_in(line, 5, 12, 18, true) else {
         return Line::Wrong;
@@ -174,7 +174,7 @@ fn place_in(line: &[u8]) -> Line
     let Field::Holds(z) = pointed_in(line, 33, 40, 46, true) else {
         return Line::Wrong;
     };
-    place_of(x, y, z)
+    position_of(x, y, z)
 }
 
 // What a line says.
@@ -192,7 +192,7 @@ pub(crate) fn line_of(line: &[u8], system: TimeSystem, satellite: &[u8]) -> Line
         return Line::PassedOver;
     }
     if begins(&line[1..], satellite) {
-        return place_in(line);
+        return position_in(line);
     }
     Line::PassedOver
 }

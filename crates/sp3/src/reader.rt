@@ -1,4 +1,4 @@
-// The entry.
+// The reader: it looks at the whole file, refuses or writes the records.
 use crate::header::HEADER_LINES;
 use crate::header::TimeSystem;
 use crate::header::is_headed;

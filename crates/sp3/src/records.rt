@@ -4,11 +4,13 @@ use crate::line::Line;
 use crate::line::line_of;
 use crate::text::begins;
 use crate::text::line_end;
+use checks::AXES;
 ghost use mathlib.Core.Path.{_≡_};
 ghost use Prim.Native.Nat.{_+_, _*_, _≤_};
 ghost use lib.IntN.{pos};
 ghost use lib.ListN.{length};
 ghost use Rattle.common.specs.Outcome.{written};
+ghost use Rattle.checks.specs.Limits.{axes};
 ghost use Rattle.sp3.specs.Records.{instantAfter, keptOf, instantsOf, positionsOf};
 ghost use Rattle.sp3.specs.Walks.{putAt, begun, faultAt, saidFrom, keptFrom, lookedAt};
 
@@ -18,13 +20,13 @@ pub(crate) enum Looked {
     Undescribed,
 }
 
-// Whether a line is not by the description.
+// Whether a line is not by the description, or is a P line of the satellite before the first epoch line.
 fn is_fault(l: Line, started: bool) -> bool
     ensures { λ r. ⌜ r ≡ faultAt l started ⌝ }
 {
     match l {
         Line::Epoch(_) => false,
-        Line::Place(_) => !started,
+        Line::Located(_) => !started,
         Line::Absent => !started,
         Line::Wrong => true,
         Line::PassedOver => false,
@@ -37,7 +39,7 @@ fn is_begun(l: Line, started: bool) -> bool
 {
     match l {
         Line::Epoch(_) => true,
-        Line::Place(_) => started,
+        Line::Located(_) => started,
         Line::Absent => started,
         Line::Wrong => started,
         Line::PassedOver => started,
@@ -50,7 +52,7 @@ fn records_of(l: Line) -> usize
 {
     match l {
         Line::Epoch(_) => 0,
-        Line::Place(_) => 1,
+        Line::Located(_) => 1,
         Line::Absent => 0,
         Line::Wrong => 0,
         Line::PassedOver => 0,
@@ -63,7 +65,7 @@ fn instant_after(l: Line, t: i64) -> i64
 {
     match l {
         Line::Epoch(u) => u.0,
-        Line::Place(_) => t,
+        Line::Located(_) => t,
         Line::Absent => t,
         Line::Wrong => t,
         Line::PassedOver => t,
@@ -96,14 +98,14 @@ pub(crate) fn look_over(bytes: &[u8], start: usize, system: TimeSystem, satellit
 
 // The record of a line, if it has one, put at a place of the two areas.
 fn put(l: Line, t: i64, count: usize, instants: &mut [i64], positions: &mut [f64])
-    requires { ⌜ (count + length (keptOf l t) ≤ length (now instants)) × (3 * count + 3 * length (keptOf l t) ≤ length (now positions)) ⌝ }
+    requires { ⌜ (count + length (keptOf l t) ≤ length (now instants)) × (axes * count + axes * length (keptOf l t) ≤ length (now positions)) ⌝ }
     ensures { λ _. ⌜ now (instants .exit) ≡ putAt count (instantsOf (keptOf l t)) (now (instants .entry)) ⌝ }
-    ensures { λ _. ⌜ now (positions .exit) ≡ putAt (3 * count) (positionsOf (keptOf l t)) (now (positions .entry)) ⌝ }
+    ensures { λ _. ⌜ now (positions .exit) ≡ putAt (axes * count) (positionsOf (keptOf l t)) (now (positions .entry)) ⌝ }
 {
     match l {
-        Line::Place(p) => {
+        Line::Located(p) => {
             instants[count] = t;
-            let at = 3 * count;
+            let at = AXES * count;
             positions[at] = p.x;
             positions[at + 1] = p.y;
             positions[at + 2] = p.z;
@@ -125,7 +127,7 @@ pub(crate) fn write_records(
     positions: &mut [f64],
 )
     requires { ⌜ length (keptFrom system (now satellite) (now bytes) start) ≤ length (now instants) ⌝ }
-    requires { ⌜ 3 * length (keptFrom system (now satellite) (now bytes) start) ≤ length (now positions) ⌝ }
+    requires { ⌜ axes * length (keptFrom system (now satellite) (now bytes) start) ≤ length (now positions) ⌝ }
     ensures { λ _. ⌜ now (instants .exit) ≡
         written (instantsOf (keptFrom system (now (satellite .entry)) (now (bytes .entry)) start)) (now (instants .entry)) ⌝ }
     ensures { λ _. ⌜ now (positions .exit) ≡

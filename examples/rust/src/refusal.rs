@@ -2,7 +2,8 @@
 
 use std::fmt;
 
-/// Why the library gave no answer. The checks are made in this order; the first that fails is the refusal.
+/// Why the library gave no answer. The checks are made in this order; the first that fails is the refusal. The last three are
+/// of `read_sp3` alone, which makes none of the others.
 #[derive(Clone, Copy, Debug, PartialEq, Eq)]
 pub enum Refusal {
     CoordinateCount = 1,

@@ -27,7 +27,7 @@ type Difference = (
 );
 
 /// Which records are kept, and when.
-pub const RECORDS: [Difference; 13] = [
+pub const RECORDS: [Difference; 16] = [
     (
         "keeps a position of three zeros",
         &[
@@ -110,6 +110,24 @@ pub const RECORDS: [Difference; 13] = [
         &["*  2200  1  1  0  0  0.00000000", P1],
         "refused by 11",
         "5554051200 s x 1000.0",
+    ),
+    (
+        "takes a year below zero",
+        &["*  -100  1  1  0  0  0.00000000", P1],
+        "refused by 11",
+        "-67026960000 s x 1000.0",
+    ),
+    (
+        "takes a plus in a date",
+        &["*  2024 +1  1  0 15  0.00000000", P2],
+        "refused by 11",
+        LAST,
+    ),
+    (
+        "takes nan for a second of 0",
+        &["*  2024  1  1  0 15         nan", P2],
+        "refused by 11",
+        LAST,
     ),
 ];
 

@@ -10,9 +10,9 @@ use Rattle.common.specs.Time.{second}
 use Rattle.common.proofs.Parts.{back}
 use Rattle.checks.specs.Checks.{beyond}
 use Rattle.calendar.specs.declared.gregorian.Calendar.{Calendar}
-use Rattle.calendar.specs.declared.instants.Instant.the-variants.{At, Unreal, Beyond}
+use Rattle.calendar.specs.declared.instants.InstantAnswer.the-variants.{At, Unreal, Beyond}
 use Rattle.calendar.specs.Gregorian.{real}
-use Rattle.calendar.specs.Instants.{instantOf, lessened, instantAnswer}
+use Rattle.calendar.specs.Instants.{since1970, lessened, instantOf}
 use Rattle.calendar.specs.Formulas.{secondsLess, manySeconds, far}
 use Rattle.calendar.proofs.Reals.{facts}
 use Rattle.calendar.proofs.Moments.{seconds-first, far-is-beyond}
@@ -21,8 +21,8 @@ use Rattle.calendar.proofs.instants.instant_of.Statement.{statement}
 use Rattle.calendar.proofs.instants.instant_of.Tie as tie
 
 -- the answer by the two tests
-chosen : (d : Calendar) (l : ℤ) (v w : Bool) → real d ≡ v → beyond (lessened (instantOf d) l) ≡ w → cond v (cond w Beyond (At (record { 0 = lessened (instantOf d) l }))) Unreal ≡ instantAnswer d l
-chosen d l v w e f = ap₂ (λ (p q : Bool). cond p (cond q Beyond (At (record { 0 = lessened (instantOf d) l }))) Unreal) (sym e) (sym f)
+chosen : (d : Calendar) (l : ℤ) (v w : Bool) → real d ≡ v → beyond (lessened (since1970 d) l) ≡ w → cond v (cond w Beyond (At (record { 0 = lessened (since1970 d) l }))) Unreal ≡ instantOf d l
+chosen d l v w e f = ap₂ (λ (p q : Bool). cond p (cond q Beyond (At (record { 0 = lessened (since1970 d) l }))) Unreal) (sym e) (sym f)
 
 is-so : (c : tie.Else1) → real (c .before .before .args .c) ≡ true
 is-so c = sym (c .before .is-real .ensures) ∙ not-false _ (c .if1 .left)
@@ -35,14 +35,14 @@ far-is : (c : tie.After-is-far) → let s = c .before .before .before .before in
 far-is c = c .is-far .ensures ∙ ap far (seconds-are (c .before))
 
 -- and the instant
-instant-is : (c : tie.After-joined) → let s = c .before .before .before .before .before .before in back (c .joined .result) ≡ lessened (instantOf (s .args .c)) (s .args .leap-seconds .0)
+instant-is : (c : tie.After-joined) → let s = c .before .before .before .before .before .before in back (c .joined .result) ≡ lessened (since1970 (s .args .c)) (s .args .leap-seconds .0)
 instant-is c =
     let s = c .before .before .before .before .before .before in
     toZ-ofZ w64 (c .joined .result) (record { sfits = c .joined .ok }) ∙ c .joined .ensures
     ∙ ap (λ (z : ℤ). z *ℤ pos second +ℤ pos (s .args .c .nanosecond)) (seconds-are (c .before .before .before))
     ∙ sym (seconds-first (s .args .c) (s .args .leap-seconds .0))
 
-beyond-is : (c : tie.After-beyond) → let s = c .before .before .before .before .before .before .before in beyond (lessened (instantOf (s .args .c)) (s .args .leap-seconds .0)) ≡ c .beyond .result
+beyond-is : (c : tie.After-beyond) → let s = c .before .before .before .before .before .before .before in beyond (lessened (since1970 (s .args .c)) (s .args .leap-seconds .0)) ≡ c .beyond .result
 beyond-is c = sym (c .beyond .ensures ∙ ap beyond (instant-is (c .before)))
 
 is-real-requires : tie.Need-is-real-requires

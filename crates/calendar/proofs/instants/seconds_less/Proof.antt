@@ -7,7 +7,7 @@ use mir.Syntax.{w16, w64}
 use mir.Val.{SFits, toZ, ofZ}
 use mir.ValLaws.{toZ-ofZ, toZ-pos}
 use Rattle.common.proofs.Parts.{back}
-use Rattle.calendar.proofs.Moments.{epoch-seconds, second-small, widened, between-fits, less-fits}
+use Rattle.calendar.proofs.Moments.{origin-seconds, second-small, widened, between-fits, less-fits}
 use borrow.Author.Needs.{needs}
 use Rattle.calendar.proofs.instants.seconds_less.Statement.{statement}
 use Rattle.calendar.proofs.instants.seconds_less.Tie as tie
@@ -63,7 +63,7 @@ sub-result-2 c = subst (SFits w64) (sym (value c)) (fits c)
 returns : tie.Need-returns
 returns c =
     let s = c .before .before in
-    ap back (value c) ∙ toZ-ofZ w64 (since s -ℤ leaps c) (fits c) ∙ ap₂ (λ (n e : ℕ). pos n -ℤ pos e -ℤ leaps c) (s .second-number .ensures) (sym epoch-seconds)
+    ap back (value c) ∙ toZ-ofZ w64 (since s -ℤ leaps c) (fits c) ∙ ap₂ (λ (n e : ℕ). pos n -ℤ pos e -ℤ leaps c) (s .second-number .ensures) (sym origin-seconds)
 
 pub seconds-less-spec : {M : Type 1} → statement M
 seconds-less-spec = tie.close (tie.spec second-number-requires cast-result sub-result cast-result-2 sub-result-2 returns)

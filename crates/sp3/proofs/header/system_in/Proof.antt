@@ -1,4 +1,5 @@
--- By the length and the three bytes. Assumes nothing.
+-- A line without the columns has no time system; otherwise the three bytes are held against UTC and then GPS, and what is neither is another.
+-- Assumes nothing.
 use borrow.Author.Needs.{needs}
 use mathlib.Core.Path.{refl, sym, ap, _∙_}
 use mathlib.Core.Bool.{true, false}

@@ -1,4 +1,4 @@
--- By the case of the instant. Assumes nothing.
+-- An instant is an epoch; no real date, or one beyond check 4, is not by the description. Assumes nothing.
 use borrow.Author.Needs.{needs}
 use mathlib.Core.Path.{sym, ap}
 use Rattle.sp3.specs.Columns.{epochAt}

@@ -1,4 +1,4 @@
--- By the time system. Assumes nothing.
+-- Under UTC and GPS the calendar works the instant out, less the leap seconds; under any other time system only the date is asked. Assumes nothing.
 use borrow.Author.Needs.{needs}
 use mathlib.Core.Path.{sym, ap, _∙_}
 use Rattle.sp3.specs.declared.header.TimeSystem.{TimeSystem}

@@ -1,4 +1,4 @@
--- By the test. Assumes nothing.
+-- A real date and time is an epoch at 0, any other is not by the description: the code asks the calendar, and answers by it. Assumes nothing.
 use borrow.Author.Needs.{needs}
 use mathlib.Core.Path.{sym, ap, _∙_}
 use mathlib.Core.Bool.{Bool, cond}

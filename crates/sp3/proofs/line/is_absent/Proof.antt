@@ -1,4 +1,4 @@
--- The numbers in turn. Assumes nothing.
+-- The first number that is not zero decides; without one all three are zero. Assumes nothing.
 use borrow.Author.Tests.{eq-eqb, ne-eqb}
 use Rattle.sp3.proofs.line.is_absent.Statement.{statement}
 use Rattle.sp3.proofs.line.is_absent.Tie as tie

@@ -5,8 +5,8 @@ use mathlib.Core.Bool.{Bool, cond}
 use native.Mathlib.Omega.{arith}
 use Rattle.sp3.specs.declared.line.Line.the-variants.{PassedOver}
 use Rattle.sp3.specs.Lines.{begins}
-use Rattle.sp3.specs.Columns.{placeIn}
-use Rattle.sp3.proofs.Said.{tail, empty-line, epoch-line, other-line, place-line}
+use Rattle.sp3.specs.Columns.{positionIn}
+use Rattle.sp3.proofs.Said.{tail, empty-line, epoch-line, other-line, position-line}
 use Rattle.sp3.proofs.line.line_of.Statement.{statement}
 use Rattle.sp3.proofs.line.line_of.Tie as tie
 
@@ -43,8 +43,8 @@ part-begins-end c = search needs
 begins-requires : tie.Need-begins-requires
 begins-requires c κs = search needs
 
-place-in-requires : tie.Need-place-in-requires
-place-in-requires c κs = search needs
+position-in-requires : tie.Need-position-in-requires
+position-in-requires c κs = search needs
 
 returns-4 : tie.Need-returns-4
 returns-4 c =
@@ -52,9 +52,9 @@ returns-4 c =
     let e = b .before .before in
     let a = e .before .before .before .before .before .before .args in
     let l = a .line .now in
-    c .place-in .ensures
-    ∙ ap (λ (y : Bool). cond y (placeIn l) PassedOver) (sym (c .before .if4 .taken) ∙ b .begins .ensures ∙ ap (begins (a .satellite .now)) (tail 1 l))
-    ∙ place-line (a .system) (a .satellite .now) l (omega arith) (e .if3 .left)
+    c .position-in .ensures
+    ∙ ap (λ (y : Bool). cond y (positionIn l) PassedOver) (sym (c .before .if4 .taken) ∙ b .begins .ensures ∙ ap (begins (a .satellite .now)) (tail 1 l))
+    ∙ position-line (a .system) (a .satellite .now) l (omega arith) (e .if3 .left)
 
 returns-5 : tie.Need-returns-5
 returns-5 c =
@@ -62,8 +62,8 @@ returns-5 c =
     let e = b .before .before in
     let a = e .before .before .before .before .before .before .args in
     let l = a .line .now in
-    ap (λ (y : Bool). cond y (placeIn l) PassedOver) (sym (c .if4 .left) ∙ b .begins .ensures ∙ ap (begins (a .satellite .now)) (tail 1 l))
-    ∙ place-line (a .system) (a .satellite .now) l (omega arith) (e .if3 .left)
+    ap (λ (y : Bool). cond y (positionIn l) PassedOver) (sym (c .if4 .left) ∙ b .begins .ensures ∙ ap (begins (a .satellite .now)) (tail 1 l))
+    ∙ position-line (a .system) (a .satellite .now) l (omega arith) (e .if3 .left)
 
 pub line-of-spec : {M : Type 1} → statement M
 line-of-spec =
@@ -78,6 +78,6 @@ line-of-spec =
     part-begins-start
     part-begins-end
     begins-requires
-    place-in-requires
+    position-in-requires
     returns-4
     returns-5)

@@ -10,7 +10,7 @@ use mir.ValLaws.{toZ-pos}
 use Rattle.common.specs.Numbers.{thousand}
 use Rattle.common.specs.Rounded.{_⊘_}
 use Rattle.float.specs.Conversions.{nearestOf}
-use Rattle.sp3.specs.Columns.{metreUnits, metresOf}
+use Rattle.sp3.specs.Columns.{stepsInMetre, metresOf}
 use Rattle.sp3.proofs.Values.{divided-once, divided-minus, metres-zero, metres-other}
 use Rattle.sp3.proofs.line.metres_of.Statement.{statement}
 use Rattle.sp3.proofs.line.metres_of.Tie as tie
@@ -31,10 +31,10 @@ own c = let s = c .before .before .before .before in c .nearest .ensures ∙ ap 
 
 -- the nearest double with the sign that was found
 signed : (c : tie.After-nearest) (b : Bool) → c .before .before .before .before .args .n .negative ≡ b
-    → round binary64 b (c .before .before .before .before .args .n .digits) metreUnits ≡ metresOf (c .before .before .before .before .args .n)
+    → round binary64 b (c .before .before .before .before .args .n .digits) stepsInMetre ≡ metresOf (c .before .before .before .before .args .n)
 signed c b e =
     let n = c .before .before .before .before .args .n in
-    sym (metres-other n (c .before .before .if1 .left) ∙ ap (λ (s : Bool). round binary64 s (n .digits) metreUnits) e)
+    sym (metres-other n (c .before .before .if1 .left) ∙ ap (λ (s : Bool). round binary64 s (n .digits) stepsInMetre) e)
 
 returns-2 : tie.Need-returns-2
 unfolding ofBits

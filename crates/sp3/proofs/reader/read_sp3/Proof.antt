@@ -1,4 +1,6 @@
--- The refusal by the checks, or the records written behind a look that found room for them. Assumes nothing.
+-- The place behind the first 22 lines leads to the lines that the definition drops them from, so the look and the walk see what the definition sees.
+-- A refusal is the first in order and leaves both areas; without one the look found room, and the walk writes the records that it counted.
+-- Assumes nothing.
 use borrow.Author.Needs.{needs}
 use mathlib.Core.Path.{_≡_, sym, ap, _∙_}
 use mathlib.Core.List.{List}

@@ -1,4 +1,4 @@
--- By what the look found and by the time system. Assumes nothing.
+-- What the look found comes first, then the time system, then room: the order of the refusals. Assumes nothing.
 use borrow.Author.Needs.{needs}
 use mathlib.Core.Path.{_≡_, sym, ap, _∙_}
 use mathlib.Core.Bool.{Bool, cond}

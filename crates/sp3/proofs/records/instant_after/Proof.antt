@@ -1,4 +1,4 @@
--- By the line. Assumes nothing.
+-- Only an epoch line has an instant of its own; behind any other line the one before it goes on. Assumes nothing.
 use borrow.Author.Needs.{needs}
 use mathlib.Core.Path.{_≡_, sym, ap, _∙_}
 use mir.Syntax.{w64}

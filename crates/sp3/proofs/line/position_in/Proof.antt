@@ -6,14 +6,14 @@ use Prim.Native.Nat.{ℕ}
 use native.Mathlib.Omega.{arith}
 use Rattle.decimal.specs.declared.reading.Field.{Field}
 use Rattle.decimal.specs.declared.reading.Field.the-variants.{Holds}
-use Rattle.sp3.specs.Columns.{xIn, yIn, zIn, placeBy, placeIn}
+use Rattle.sp3.specs.Columns.{xIn, yIn, zIn, positionBy, positionIn}
 use Rattle.sp3.proofs.Values.{coordinate-small}
-use Rattle.sp3.proofs.line.place_in.Statement.{statement}
-use Rattle.sp3.proofs.line.place_in.Tie as tie
+use Rattle.sp3.proofs.line.position_in.Statement.{statement}
+use Rattle.sp3.proofs.line.position_in.Tie as tie
 
-by-fields : (l : List ℕ) {f g h : Field} → xIn l ≡ f → yIn l ≡ g → zIn l ≡ h → placeIn l ≡ placeBy f g h
-unfolding placeIn
-by-fields l {f} {g} {h} p q r = ap (λ (u : Field). placeBy u (yIn l) (zIn l)) p ∙ ap (λ (u : Field). placeBy f u (zIn l)) q ∙ ap (placeBy f g) r
+by-fields : (l : List ℕ) {f g h : Field} → xIn l ≡ f → yIn l ≡ g → zIn l ≡ h → positionIn l ≡ positionBy f g h
+unfolding positionIn
+by-fields l {f} {g} {h} p q r = ap (λ (u : Field). positionBy u (yIn l) (zIn l)) p ∙ ap (λ (u : Field). positionBy f u (zIn l)) q ∙ ap (positionBy f g) r
 
 -- ---- the line, and each coordinate that was read, at the place behind it
 abbrev line-x : tie.After-x → List ℕ
@@ -79,8 +79,8 @@ returns-3 c =
     let fx = fy .before .before .before .before in
     sym (by-fields (line-y fy) (is-x fx) (is-y fy) (sym (r .pointed-in3 .ensures) ∙ c .enum-told3 .given .1))
 
-place-of-requires : tie.Need-place-of-requires
-place-of-requires c κs =
+position-of-requires : tie.Need-position-of-requires
+position-of-requires c κs =
     let fz = c .before in
     let fy = fz .before .before .before .before in
     let fx = fy .before .before .before .before in (
@@ -94,10 +94,10 @@ returns-4 c =
     let fz = c .before .before in
     let fy = fz .before .before .before .before in
     let fx = fy .before .before .before .before in
-    c .place-of .ensures ∙ sym (by-fields (line-z fz) (is-x fx) (is-y fy) (is-z fz))
+    c .position-of .ensures ∙ sym (by-fields (line-z fz) (is-x fx) (is-y fy) (is-z fz))
 
-pub place-in-spec : {M : Type 1} → statement M
-place-in-spec =
+pub position-in-spec : {M : Type 1} → statement M
+position-in-spec =
     tie.close
     (tie.spec
     pointed-in-requires
@@ -112,5 +112,5 @@ place-in-spec =
     enum-known-z
     enum-told-3
     returns-3
-    place-of-requires
+    position-of-requires
     returns-4)
