@@ -38,7 +38,7 @@ use Rattle.sp3.specs.Entries.{said, isMissing, isOther, undescribed, unf
 use Rattle.sp3.specs.Rules.{positionsBy, positionsIn, satellitePositions, lastInstant, recordsAfter, Valued}
 use Rattle.sp3.proofs.Said.{by-tests}
 use Rattle.sp3.proofs.Faults.{or-right}
-use Rattle.sp3.proofs.Values.{coordinate-small, metres-zero, metres-other}
+use Rattle.sp3.proofs.Values.{coordinate-small, metres-zero, metres-other, metres-nearest}
 
 -- ---- which are kept, and in which order
 
@@ -223,7 +223,7 @@ refused-positions bs sat leaps is ps n e = ap (λ (m : ℕ). area m (positionsOf
 -- ---- the values
 
 valued : (n : Number) → n .digits < coordinateEnd → Valued n
-valued n h = record { small = h; zero = metres-zero n; nearest = metres-other n }
+valued n h = record { small = h; zero = metres-zero n; rounded = metres-other n; nearest = metres-nearest n h }
 
 pub x-value : (l : List ℕ) (n : Number) → xIn l ≡ Holds n → Valued n
 x-value l n e = valued n (coordinate-small 5 12 18 l n (omega arith) (omega arith) refl e)

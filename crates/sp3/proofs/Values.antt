@@ -4,22 +4,25 @@ use mathlib.Core.Path.{_≡_, refl, sym, ap, _∙_, subst}
 use mathlib.Core.Bool.{Bool, true, false, cond}
 use mathlib.Core.List.{List}
 use Prim.Native.Nat.{ℕ, suc, _+_, _-_, _*_, _^_, _≤_, _<_}
-use native.Mathlib.Nat.{mul-pos}
+use native.Mathlib.Nat.{le-trans, lt-of-lt-of-le, mul-pos}
 use native.Mathlib.Omega.{arith}
-use lib.Dec.{leb, lit<}
+use lib.Dec.{leb, eqb, lit<, lit≤}
 use lib.IntN.{pos}
+use lib.Pow.{pow-mono}
 use lib.ListN.{length, take, drop, length-drop}
 use lib.Seq.{length-take-le}
-use lib.Ieee.{Float, nan, inf, fin, binary64, up, down, unlike, round, div, neg, ofInt}
+use lib.Ieee.{Float, nan, inf, fin, binary64, up, down, unlike, size, span, climb, units, odd, round, div, neg, ofInt}
 use lib.Ieee.Back.{round-whole}
 use lib.Ieee.Exact.{HasValue}
 use lib.Ieee.Fits.{down-pos}
 use lib.Ieee.Scale.{round-same}
-use borrow.Author.Tests.{le-leb, lt-leb, eq-eqb, ne-eqb, leb-true}
+use borrow.Author.Tests.{le-leb, lt-leb, eq-eqb, ne-eqb, leb-true, eqb-true, eqb-false}
 use Rattle.common.specs.Numbers.{nought, thousand}
 use Rattle.common.specs.Rounded.{_⊘_}
 use Rattle.float.specs.Conversions.{nearestOf}
+use Rattle.float.specs.Nearness.{IsNearest}
 use Rattle.float.proofs.Integers.{neg-round}
+use Rattle.float.proofs.NearestFraction.{round-nearest}
 use Rattle.decimal.specs.declared.reading.Number.{Number}
 use Rattle.decimal.specs.declared.reading.Field.{Field}
 use Rattle.decimal.specs.declared.reading.Field.the-variants.{Holds, NoNumber}
@@ -97,9 +100,27 @@ divided-once n h = divided (round binary64 false n 1) n (round-whole binary64 fa
 pub divided-minus : (n : ℕ) → n < coordinateEnd → neg (nearestOf (pos n) ⊘ thousand) ≡ round binary64 true n 1000
 divided-minus n h = ap neg (divided-once n h) ∙ neg-round binary64 n 1000
 
+-- rounding nothing gives +0
+nothing : round binary64 false 0 1000 ≡ nought
+unfolding round units odd size span climb
+nothing = refl
+
 module _ (n : Number) where
   pub metres-zero : n .digits ≡ 0 → metresOf n ≡ nought
   metres-zero e = ap (λ (b : Bool). cond b nought (round binary64 (n .negative) (n .digits) 1000)) (eq-eqb (n .digits) 0 e)
 
   pub metres-other : (n .digits ≡ 0 → ⊥) → metresOf n ≡ round binary64 (n .negative) (n .digits) 1000
   metres-other e = ap (λ (b : Bool). cond b nought (round binary64 (n .negative) (n .digits) 1000)) (ne-eqb (n .digits) 0 e)
+
+  -- no double is nearer: rounding gives the nearest, and a zero is exact
+  pub metres-nearest : n .digits < coordinateEnd → IsNearest binary64 (n .digits) 1000 (metresOf n)
+  metres-nearest h = go (eqb (n .digits) 0) refl
+    where
+      some : (s : Bool) → IsNearest binary64 (n .digits) 1000 (round binary64 s (n .digits) 1000)
+      some s = round-nearest binary64 s (n .digits) 1000 (lit< tt) (lt-of-lt-of-le h (le-trans (lit≤ {m = 10000000000000} {n = 2 ^ 44} tt) (pow-mono {i = 44} {j = 1023} (lit≤ tt))))
+
+      go : (b : Bool) → eqb (n .digits) 0 ≡ b → IsNearest binary64 (n .digits) 1000 (metresOf n)
+      go true e =
+          let z = eqb-true (n .digits) 0 e in
+          subst (IsNearest binary64 (n .digits) 1000) (ap (λ (m : ℕ). round binary64 false m 1000) z ∙ nothing ∙ sym (metres-zero z)) (some false)
+      go false e = subst (IsNearest binary64 (n .digits) 1000) (sym (metres-other (eqb-false (n .digits) 0 e))) (some (n .negative))

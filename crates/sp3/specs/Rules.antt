@@ -7,6 +7,7 @@ use lib.Dec.{eqb}
 use lib.IntN.{ℤ, pos}
 use lib.Ieee.{binary64, round}
 use Rattle.common.specs.Numbers.{nought}
+use Rattle.float.specs.Nearness.{IsNearest}
 use Rattle.units.specs.declared.Position.{Position}
 use Rattle.checks.specs.Checks.{any}
 use Rattle.decimal.specs.declared.reading.Number.{Number}
@@ -63,8 +64,10 @@ unfoldable pub recordsAfter : List Line → List Line → List Kept
 recordsAfter A [] = []
 recordsAfter A (l ∷ B) = keptOf l (lastInstant (pos 0) A) ++ recordsAfter (A ++ (l ∷ [])) B
 
--- a coordinate's number, in millionths of a kilometre: it has 13 digits at most, and it is kept as +0 or as the double nearest a thousandth of it
+-- a coordinate's number, in millionths of a kilometre: it has 13 digits at most; it is kept as +0, or rounded with its sign; and no double is nearer to a
+-- thousandth of it, in metres
 pub record Valued (n : Number) : Type 0 where
   pub small : n .digits < coordinateEnd
   pub zero : n .digits ≡ 0 → metresOf n ≡ nought
-  pub nearest : (n .digits ≡ 0 → ⊥) → metresOf n ≡ round binary64 (n .negative) (n .digits) stepsInMetre
+  pub rounded : (n .digits ≡ 0 → ⊥) → metresOf n ≡ round binary64 (n .negative) (n .digits) stepsInMetre
+  pub nearest : IsNearest binary64 (n .digits) stepsInMetre (metresOf n)
