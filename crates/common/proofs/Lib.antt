@@ -4,3 +4,4 @@ pub mod Search
 pub mod Outcomes
 pub mod Sums
 pub mod Parts
+pub mod Dropped

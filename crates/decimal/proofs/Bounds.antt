@@ -9,10 +9,10 @@ use mathlib.Core.Bool.{Bool, true, false, cond, _&&_}
 use lib.Dec.{T, leb, ltb, eqb, ltb→lt, lt→ltb, lit<}
 use lib.ListN.{length, take, drop, length-drop}
 use lib.Seq.{length-take-le}
-use borrow.Author.Tests.{leb-true}
 use Rattle.decimal.specs.declared.reading.Number.{Number}
 use Rattle.decimal.specs.declared.reading.Field.{Field}
 use Rattle.decimal.specs.declared.reading.Field.the-variants.{Holds, NoNumber}
+use Rattle.decimal.proofs.Bytes.{digit-bounds}
 use Rattle.decimal.specs.Reading.{isDigit, afterBlanks, digitsBehind, someDigits, signedDigits, withDecimals, mostColumns, wholeOf, decimalOf}
 
 -- one digit more
@@ -36,12 +36,7 @@ by-test m f true h = h refl
 by-test m f false h = tt
 
 digit-small : (b : ℕ) → isDigit b ≡ true → b - 48 < 10
-digit-small b e = go (leb 48 b) (leb b 57) refl e
-  where
-    go : (x y : Bool) → leb b 57 ≡ y → x && y ≡ true → b - 48 < 10
-    go true true f g = let l = leb-true b 57 f in omega arith
-    go true false f g = absurd (let z : _≡_ {A = ℕ} 0 1 = cc in omega arith)
-    go false y f g = absurd (let z : _≡_ {A = ℕ} 0 1 = cc in omega arith)
+digit-small b e = omega (arith, digit-bounds b e .1)
 
 digits-below : (t : List ℕ) (s : Bool) (n k j : ℕ) → n < 10 ^ k → k + length t ≡ j → T (below (10 ^ j) (digitsBehind s n t))
 unfolding digitsBehind

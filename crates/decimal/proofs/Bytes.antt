@@ -1,20 +1,19 @@
 -- A text byte by byte: what the loops over blanks and digits take off the text that is left, from place i on. Assumes nothing.
-use mathlib.Core.Path.{_≡_, sym, ap, _∙_}
+use mathlib.Core.Path.{_≡_, refl, sym, ap, _∙_}
 use mathlib.Core.List.{List, [], _∷_}
 use Prim.Native.Nat.{ℕ, _+_, _-_, _*_, _≤_, _<_}
-use native.Mathlib.Numerals.{add-one}
 use native.Mathlib.Omega.{arith}
-use mathlib.Core.Bool.{Bool, true, false, cond, _&&_}
+use mathlib.Core.Bool.{Bool, true, false, cond, _&&_, false≢true}
 use lib.Dec.{leb, eqb}
 use lib.ListN.{length, getD, drop, drop-of-length-le}
-use lib.Seq.{drop-cons}
-use borrow.Author.Tests.{le-leb, lt-leb, eq-eqb, ne-eqb}
+use borrow.Author.Tests.{le-leb, lt-leb, eq-eqb, ne-eqb, leb-true}
+use Rattle.common.proofs.Dropped.{dropped}
 use Rattle.decimal.specs.declared.reading.Field.{Field}
 use Rattle.decimal.specs.declared.reading.Field.the-variants.{Holds, NoNumber}
 use Rattle.decimal.specs.Reading.{isDigit, afterBlanks, digitsBehind, someDigits, signedDigits, withDecimals}
 
 -- ---- tests on a byte
-digit-yes : (b : ℕ) → 48 ≤ b → b ≤ 57 → isDigit b ≡ true
+pub digit-yes : (b : ℕ) → 48 ≤ b → b ≤ 57 → isDigit b ≡ true
 digit-yes b h l = ap (λ (y : Bool). y && leb b 57) (le-leb 48 b h) ∙ le-leb b 57 l
 
 digit-low : (b : ℕ) → b < 48 → isDigit b ≡ false
@@ -23,13 +22,21 @@ digit-low b h = ap (λ (y : Bool). y && leb b 57) (lt-leb 48 b h)
 digit-high : (b : ℕ) → 57 < b → isDigit b ≡ false
 digit-high b h = ap (λ (y : Bool). y && leb b 57) (le-leb 48 b (omega arith)) ∙ lt-leb b 57 h
 
+pub digit-bounds : (b : ℕ) → isDigit b ≡ true → (48 ≤ b) × (b ≤ 57)
+digit-bounds b e = go (leb 48 b) (leb b 57) refl refl e
+  where
+    go : (x y : Bool) → leb 48 b ≡ x → leb b 57 ≡ y → x && y ≡ true → (48 ≤ b) × (b ≤ 57)
+    go true true f g h = (leb-true 48 b f, leb-true b 57 g)
+    go true false f g h = absurd (false≢true h)
+    go false y f g h = absurd (false≢true h)
+
 module _ (t : List ℕ) (i : ℕ) where
   -- the byte at the place
   abbrev pub here : ℕ
   here = getD t i 0
 
   next : i < length t → drop i t ≡ here ∷ drop (i + 1) t
-  next h = drop-cons t i 0 h ∙ ap (λ (j : ℕ). here ∷ drop j t) (sym (add-one i))
+  next h = dropped t i 0 h
 
   none : length t ≤ i → drop i t ≡ []
   none h = drop-of-length-le t h

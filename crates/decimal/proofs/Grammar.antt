@@ -8,17 +8,18 @@ use native.Mathlib.Omega.{arith}
 use lib.Dec.{T, leb, eqb}
 use lib.ListN.{length, replicate, take, drop, take-append-drop, length-append, length-drop}
 use lib.Seq.{take-at, length-take-le, drop-append-add}
-use borrow.Author.Tests.{le-leb, leb-true, eqb-true, ne-eqb}
+use borrow.Author.Tests.{le-leb, eqb-true, ne-eqb}
 use Rattle.decimal.specs.declared.reading.Number.{Number}
 use Rattle.decimal.specs.declared.reading.Field.{Field}
 use Rattle.decimal.specs.declared.reading.Field.the-variants.{Holds, NoNumber}
 use Rattle.decimal.specs.Reading.{isDigit, afterBlanks, digitsBehind, someDigits, signedDigits, withDecimals, mostColumns, wholeOf, decimalOf}
+use Rattle.decimal.proofs.Bytes.{digit-yes, digit-bounds}
 use Rattle.decimal.specs.Shown.{bytes, Digits, behind, sign, Whole, Decimal}
 
 -- ---- written, then read
 
 digit-read : (d : ℕ) → d < 10 → isDigit (48 + d) ≡ true
-digit-read d h = ap (λ (y : Bool). y && leb (48 + d) 57) (le-leb 48 (48 + d) (omega arith)) ∙ le-leb (48 + d) 57 (omega arith)
+digit-read d h = digit-yes (48 + d) (omega arith) (omega arith)
 
 digits-read : (s : Bool) (n : ℕ) (ds : List ℕ) → Digits ds → digitsBehind s n (bytes ds) ≡ Holds (record { negative = s; digits = behind n ds })
 unfolding digitsBehind Digits behind
@@ -74,14 +75,6 @@ holds NoNumber = false
 
 none : {A : Type 0} (n : Number) → NoNumber ≡ Holds n → A
 none n e = absurd (false≢true (ap holds e))
-
-digit-bounds : (b : ℕ) → isDigit b ≡ true → (48 ≤ b) × (b ≤ 57)
-digit-bounds b e = go (leb 48 b) (leb b 57) refl refl e
-  where
-    go : (x y : Bool) → leb 48 b ≡ x → leb b 57 ≡ y → x && y ≡ true → (48 ≤ b) × (b ≤ 57)
-    go true true f g h = (leb-true 48 b f, leb-true b 57 g)
-    go true false f g h = absurd (false≢true h)
-    go false y f g h = absurd (false≢true h)
 
 -- digits alone
 record Written (s : Bool) (n : ℕ) (t : List ℕ) (m : Number) : Type 0 where

@@ -3,12 +3,11 @@ use mathlib.Core.Path.{_≡_, refl, sym, ap, _∙_}
 use mathlib.Core.Bool.{Bool, true, false, _&&_}
 use mathlib.Core.List.{List, [], _∷_, _++_}
 use Prim.Native.Nat.{ℕ, zero, suc, _+_, _-_, _*_, _<_, _≤_}
-use native.Mathlib.Numerals.{add-one}
 use native.Mathlib.Omega.{arith}
 use lib.Dec.{T, eqb}
 use lib.ListN.{length, getD, take, drop, drop-of-length-le}
-use lib.Seq.{drop-cons}
 use borrow.Author.Tests.{eqb-true}
+use Rattle.common.proofs.Dropped.{dropped}
 use Rattle.sp3.specs.Lines.{lines, begins}
 use Rattle.sp3.specs.Walks.{ending}
 use Rattle.sp3.specs.Header.{beginnings, headed}
@@ -45,7 +44,7 @@ table-at k h =
 
 module _ (bs : List ℕ) (from k : ℕ) (h : k < 22) where
   begin-cons : drop k beginnings ≡ getD beginnings k [] ∷ drop (k + 1) beginnings
-  begin-cons = drop-cons beginnings k [] h ∙ ap (λ (n : ℕ). getD beginnings k [] ∷ drop n beginnings) (sym (add-one k))
+  begin-cons = dropped beginnings k [] h
 
   pub head-none : length bs ≤ from → headed (drop k beginnings) (lines (drop from bs)) ≡ false
   unfolding headed

@@ -4,12 +4,12 @@ use mathlib.Core.Bool.{Bool, true, false, cond, _&&_}
 use mathlib.Core.List.{List, [], _∷_}
 use Prim.Native.Nat.{ℕ, suc, _+_, _-_, _≤_, _<_}
 use native.Mathlib.Nat.{add-zero}
-use native.Mathlib.Numerals.{add-one}
 use native.Mathlib.Omega.{arith}
 use lib.Dec.{eqb}
 use lib.ListN.{length, getD, take, drop, drop-of-length-le}
-use lib.Seq.{drop-nil, drop-cons, drop-drop, getD-drop}
+use lib.Seq.{drop-nil, drop-drop, getD-drop}
 use borrow.Author.Tests.{eq-eqb, ne-eqb}
+use Rattle.common.proofs.Dropped.{dropped}
 use Rattle.sp3.specs.Lines.{onto, lines, begins}
 use Rattle.sp3.specs.Walks.{ending}
 
@@ -35,7 +35,7 @@ part from to bs = take (to - from) (drop from bs)
 module _ (bs : List ℕ) (from : ℕ) where
   -- the byte from a place on
   pub next : from < length bs → drop from bs ≡ getD bs from 0 ∷ drop (from + 1) bs
-  next h = drop-cons bs from 0 h ∙ ap (λ n. getD bs from 0 ∷ drop n bs) (sym (add-one from))
+  next h = dropped bs from 0 h
 
   pub line-here : (to : ℕ) → from < length bs → to ≡ from + ending (drop from bs) → lines (drop from bs) ≡ part from to bs ∷ lines (drop (to + 1) bs)
   line-here to h e =

@@ -1,7 +1,7 @@
 -- The faults of all lines, found one line after the other: a line is wrong by itself, or it is a P line and no epoch line stood before it. Once one
 -- has stood, only the first can be. Assumes nothing.
 use mathlib.Core.Path.{_≡_, refl, sym, _∙_}
-use mathlib.Core.Bool.{Bool, true, false, _||_}
+use mathlib.Core.Bool.{true, false, or-true, or-false}
 use mathlib.Core.List.{List, [], _∷_}
 use Rattle.checks.specs.Checks.{any}
 use Rattle.sp3.specs.declared.line.Line.{Line}
@@ -19,19 +19,11 @@ timed (Absent ∷ L) = timed L
 timed (Wrong ∷ L) = refl
 timed (PassedOver ∷ L) = timed L
 
-pub or-right : (b : Bool) → b || true ≡ true
-or-right true = refl
-or-right false = refl
-
-or-none : (b : Bool) → b || false ≡ b
-or-none true = refl
-or-none false = refl
-
 pub faults : (L : List Line) → anyFaultFrom false L ≡ faulty L
 unfolding anyFaultFrom any untimed
 faults [] = refl
-faults (Epoch t ∷ L) = timed L ∙ sym (or-none (any isWrong L))
-faults (Located p ∷ L) = sym (or-right (any isWrong L))
-faults (Absent ∷ L) = sym (or-right (any isWrong L))
+faults (Epoch t ∷ L) = timed L ∙ sym (or-false (any isWrong L))
+faults (Located p ∷ L) = sym (or-true (any isWrong L))
+faults (Absent ∷ L) = sym (or-true (any isWrong L))
 faults (Wrong ∷ L) = refl
 faults (PassedOver ∷ L) = faults L

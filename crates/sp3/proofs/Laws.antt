@@ -2,7 +2,7 @@
 -- order, whatever the epochs; each has the instant of the last epoch line before it; an answer is given only under UTC or GPS and where nothing is
 -- faulty; a refusal leaves both areas; each coordinate is +0 or the double nearest its decimal. Assumes nothing.
 use mathlib.Core.Path.{_≡_, refl, sym, ap, _∙_}
-use mathlib.Core.Bool.{Bool, true, false, cond, not, _&&_, _||_, true≢false}
+use mathlib.Core.Bool.{Bool, true, false, cond, not, _&&_, _||_, true≢false, or-true}
 use mathlib.Core.Logic.{_⊎_, inl, inr}
 use mathlib.Core.List.{List, [], _∷_, _++_, map, map-append, append-assoc}
 use Prim.Native.Nat.{ℕ, suc, _-_, _<_}
@@ -37,7 +37,6 @@ use Rattle.sp3.specs.Records.{Kept, body, isWrong, isEpoch, untimed, fau
 use Rattle.sp3.specs.Entries.{said, isMissing, isOther, undescribed, unfit, sp3Refusal, sp3Instants, sp3Positions, recordsOf}
 use Rattle.sp3.specs.Rules.{positionsBy, positionsIn, satellitePositions, lastInstant, recordsAfter, Valued}
 use Rattle.sp3.proofs.Said.{by-tests}
-use Rattle.sp3.proofs.Faults.{or-right}
 use Rattle.sp3.proofs.Values.{coordinate-small, metres-zero, metres-other, metres-nearest}
 
 -- ---- which are kept, and in which order
@@ -163,8 +162,8 @@ start-unseen : (S : List Line) (t u : ℤ) → faulty S ≡ false → kept t S �
 unfolding any untimed kept
 start-unseen [] t u h = refl
 start-unseen (Epoch v ∷ S) t u h = refl
-start-unseen (Located p ∷ S) t u h = absurd (true≢false (sym (or-right (any isWrong S)) ∙ h))
-start-unseen (Absent ∷ S) t u h = absurd (true≢false (sym (or-right (any isWrong S)) ∙ h))
+start-unseen (Located p ∷ S) t u h = absurd (true≢false (sym (or-true (any isWrong S)) ∙ h))
+start-unseen (Absent ∷ S) t u h = absurd (true≢false (sym (or-true (any isWrong S)) ∙ h))
 start-unseen (Wrong ∷ S) t u h = absurd (true≢false h)
 start-unseen (PassedOver ∷ S) t u h = start-unseen S t u h
 

@@ -1,6 +1,6 @@
 -- Inner: what the functions behind the entry work out: the lines from a place on, one after the other.
 use Prim.Native.Nat.{ℕ, suc, _+_}
-use mathlib.Core.Bool.{Bool, true, false, cond, not}
+use mathlib.Core.Bool.{Bool, true, false, cond, not, _&&_, _||_}
 use mathlib.Core.List.{List, [], _∷_, _++_, map}
 use lib.Dec.{eqb}
 use lib.IntN.{ℤ, pos}
@@ -8,12 +8,11 @@ use lib.ListN.{length, take, drop}
 use lib.Ieee.{Float}
 use Rattle.sp3.specs.declared.header.TimeSystem.{TimeSystem}
 use Rattle.sp3.specs.declared.line.Line.{Line}
-use Rattle.sp3.specs.declared.line.Line.the-variants.{Epoch, Located, Absent, Wrong, PassedOver}
 use Rattle.sp3.specs.declared.records.Looked.{Looked}
 use Rattle.sp3.specs.declared.records.Looked.the-variants.{Found, Undescribed}
 use Rattle.sp3.specs.Lines.{lineFeed, lines}
 use Rattle.sp3.specs.Columns.{lineOf}
-use Rattle.sp3.specs.Records.{Kept, body, faulty, kept}
+use Rattle.sp3.specs.Records.{Kept, body, isWrong, isEpoch, isPosition, faulty, kept}
 use Rattle.sp3.specs.Entries.{isMissing, isOther, unfit}
 
 -- how many bytes stand ahead of the first line feed
@@ -27,19 +26,11 @@ putAt at values old = take at old ++ (values ++ drop (at + length values) old)
 
 -- whether an epoch line has stood, at a line or before it
 abbrev pub begun : Line → Bool → Bool
-begun (Epoch t) b = true
-begun (Located p) b = b
-begun Absent b = b
-begun Wrong b = b
-begun PassedOver b = b
+begun l b = isEpoch l || b
 
 -- whether a line is not by the description, or is a P line of the satellite and no epoch line stood before it, which b says
 abbrev pub faultAt : Line → Bool → Bool
-faultAt (Epoch t) b = false
-faultAt (Located p) b = not b
-faultAt Absent b = not b
-faultAt Wrong b = true
-faultAt PassedOver b = false
+faultAt l b = isWrong l || (isPosition l && not b)
 
 -- whether one of some lines is
 unfoldable pub anyFaultFrom : Bool → List Line → Bool
