@@ -57,11 +57,11 @@ fn is_far(seconds: i64) -> bool
 }
 
 // Seconds and the nanoseconds after them, in nanoseconds.
-fn joined(seconds: i64, nanoseconds: u32) -> i64
+fn joined(seconds: i64, nanoseconds: u32) -> Nanoseconds
     requires { ⌜ natAbs seconds ≤ manySeconds ⌝ }
-    ensures { λ r. ⌜ r ≡ seconds *ℤ pos second +ℤ pos nanoseconds ⌝ }
+    ensures { λ r. ⌜ r .0 ≡ seconds *ℤ pos second +ℤ pos nanoseconds ⌝ }
 {
-    seconds * SECOND + nanoseconds as i64
+    Nanoseconds(seconds * SECOND + nanoseconds as i64)
 }
 
 // The instant of a calendar, less leap seconds.
@@ -75,7 +75,7 @@ pub fn instant_of(c: Calendar, leap_seconds: LeapSeconds) -> InstantAnswer
     if is_far(seconds) {
         return InstantAnswer::Beyond;
     }
-    let t = Nanoseconds(joined(seconds, c.nanosecond));
+    let t = joined(seconds, c.nanosecond);
     if checks::beyond(t) {
         return InstantAnswer::Beyond;
     }

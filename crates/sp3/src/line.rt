@@ -5,6 +5,7 @@ use calendar::Calendar;
 use calendar::InstantAnswer;
 use decimal::Field;
 use decimal::Number;
+use units::Metres;
 use units::Nanoseconds;
 use units::Position;
 ghost use mathlib.Core.Path.{_≡_};
@@ -122,15 +123,15 @@ fn epoch_in(line: &[u8], system: TimeSystem) -> Line
 }
 
 // A coordinate in metres, of its millionths of a kilometre: fewer than 2^53 are a double exactly, so only the division rounds.
-fn metres_of(n: Number) -> f64
+fn metres_of(n: Number) -> Metres
     requires { ⌜ n .digits < coordinateEnd ⌝ }
-    ensures { λ r. ⌜ r ≡ metresOf n ⌝ }
+    ensures { λ r. ⌜ r .0 ≡ metresOf n ⌝ }
 {
     if n.digits == 0 {
-        return 0.0;
+        return Metres(0.0);
     }
     let x = float::nearest(n.digits as i64) / STEPS_IN_METRE;
-    if n.negative { -x } else { x }
+    if n.negative { Metres(-x) } else { Metres(x) }
 }
 
 // Whether three coordinates are zero.
@@ -155,9 +156,9 @@ fn position_of(x: Number, y: Number, z: Number) -> Line
         return Line::Absent;
     }
     Line::Located(Position {
-        x: metres_of(x),
-        y: metres_of(y),
-        z: metres_of(z),
+        x: metres_of(x).0,
+        y: metres_of(y).0,
+        z: metres_of(z).0,
     })
 }
 

@@ -5,6 +5,7 @@ use crate::line::line_of;
 use crate::text::begins;
 use crate::text::line_end;
 use checks::AXES;
+use units::Nanoseconds;
 ghost use mathlib.Core.Path.{_≡_};
 ghost use Prim.Native.Nat.{_+_, _*_, _≤_};
 ghost use lib.IntN.{pos};
@@ -60,11 +61,11 @@ fn records_of(l: Line) -> usize
 }
 
 // The instant of the last epoch line.
-fn instant_after(l: Line, t: i64) -> i64
-    ensures { λ r. ⌜ r ≡ instantAfter l t ⌝ }
+fn instant_after(l: Line, t: Nanoseconds) -> Nanoseconds
+    ensures { λ r. ⌜ r .0 ≡ instantAfter l (t .0) ⌝ }
 {
     match l {
-        Line::Epoch(u) => u.0,
+        Line::Epoch(u) => u,
         Line::Located(_) => t,
         Line::Absent => t,
         Line::Wrong => t,
@@ -97,14 +98,15 @@ pub(crate) fn look_over(bytes: &[u8], start: usize, system: TimeSystem, satellit
 }
 
 // The record of a line, if it has one, put at a place of the two areas.
-fn put(l: Line, t: i64, count: usize, instants: &mut [i64], positions: &mut [f64])
-    requires { ⌜ (count + length (keptOf l t) ≤ length (now instants)) × (axes * count + axes * length (keptOf l t) ≤ length (now positions)) ⌝ }
-    ensures { λ _. ⌜ now (instants .exit) ≡ putAt count (instantsOf (keptOf l t)) (now (instants .entry)) ⌝ }
-    ensures { λ _. ⌜ now (positions .exit) ≡ putAt (axes * count) (positionsOf (keptOf l t)) (now (positions .entry)) ⌝ }
+fn put(l: Line, t: Nanoseconds, count: usize, instants: &mut [i64], positions: &mut [f64])
+    requires { ⌜ (count + length (keptOf l (t .0)) ≤ length (now instants)) × (axes * count + axes * length (keptOf l (t .0)) ≤ length (now positions)) ⌝ }
+    ensures { λ _. ⌜ now (instants .exit) ≡ putAt count (instantsOf (keptOf l (t .0))) (now (instants .entry)) ⌝ }
+    ensures { λ _. ⌜ now (positions .exit) ≡ putAt (axes * count) (positionsOf (keptOf l (t .0))) (now (positions .entry)) ⌝ }
 {
     match l {
         Line::Located(p) => {
-            instants[count] = t;
+            let nanoseconds = t.0;
+            instants[count] = nanoseconds;
             let at = AXES * count;
             positions[at] = p.x;
             positions[at + 1] = p.y;
@@ -134,7 +136,7 @@ pub(crate) fn write_records(
         written (positionsOf (keptFrom system (now (satellite .entry)) (now (bytes .entry)) start)) (now (positions .entry)) ⌝ }
 {
     let mut from = start;
-    let mut t: i64 = 0;
+    let mut t = Nanoseconds(0);
     let mut count: usize = 0;
     while from < bytes.len() {
         let to = line_end(bytes, from);

@@ -35,10 +35,10 @@ far-is : (c : tie.After-is-far) → let s = c .before .before .before .before in
 far-is c = c .is-far .ensures ∙ ap far (seconds-are (c .before))
 
 -- and the instant
-instant-is : (c : tie.After-joined) → let s = c .before .before .before .before .before .before in back (c .joined .result) ≡ lessened (since1970 (s .args .c)) (s .args .leap-seconds .0)
+instant-is : (c : tie.After-joined) → let s = c .before .before .before .before .before .before in c .joined .result .0 ≡ lessened (since1970 (s .args .c)) (s .args .leap-seconds .0)
 instant-is c =
     let s = c .before .before .before .before .before .before in
-    toZ-ofZ w64 (c .joined .result) (record { sfits = c .joined .ok }) ∙ c .joined .ensures
+    c .joined .ensures
     ∙ ap (λ (z : ℤ). z *ℤ pos second +ℤ pos (s .args .c .nanosecond)) (seconds-are (c .before .before .before))
     ∙ sym (seconds-first (s .args .c) (s .args .leap-seconds .0))
 

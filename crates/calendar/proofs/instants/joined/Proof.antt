@@ -23,17 +23,17 @@ value c =
 fits : (c : tie.Start) → SFits w64 (c .args .seconds *ℤ pos second +ℤ pos (c .args .nanoseconds))
 fits c = joined-fits (c .args .seconds) (c .args .nanoseconds) (c .pre) (c .fits .nanoseconds .fits)
 
-mul-result : tie.Need-mul-result
-mul-result c = subst (SFits w64) (sym (product c)) (product-fits (c .args .seconds) (c .pre))
+mul-t3 : tie.Need-mul-t3
+mul-t3 c = subst (SFits w64) (sym (product c)) (product-fits (c .args .seconds) (c .pre))
 
-cast-result : tie.Need-cast-result
-cast-result c = search needs
+cast-t4 : tie.Need-cast-t4
+cast-t4 c = search needs
 
-add-result : tie.Need-add-result
-add-result c = subst (SFits w64) (sym (value c)) (fits c)
+add-t5 : tie.Need-add-t5
+add-t5 c = subst (SFits w64) (sym (value c)) (fits c)
 
 returns : tie.Need-returns
 returns c = ap back (value c) ∙ toZ-ofZ w64 (c .args .seconds *ℤ pos second +ℤ pos (c .args .nanoseconds)) (fits c)
 
 pub joined-spec : {M : Type 1} → statement M
-joined-spec = tie.close (tie.spec mul-result cast-result add-result returns)
+joined-spec = tie.close (tie.spec mul-t3 cast-t4 add-t5 returns)

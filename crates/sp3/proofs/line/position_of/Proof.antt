@@ -29,8 +29,8 @@ returns-2 : tie.Need-returns-2
 returns-2 c =
     let i = c .before .before .before .before in
     let a = i .before .args in
-    ap (λ (p : Float). Located (record { x = p; y = c .before .metres-of2 .result; z = c .metres-of3 .result })) (c .before .before .metres-of .ensures)
-    ∙ ap (λ (p : Float). Located (record { x = metresOf (a .x); y = p; z = c .metres-of3 .result })) (c .before .metres-of2 .ensures)
+    ap (λ (p : Float). Located (record { x = p; y = c .before .metres-of2 .result .0; z = c .metres-of3 .result .0 })) (c .before .before .metres-of .ensures)
+    ∙ ap (λ (p : Float). Located (record { x = metresOf (a .x); y = p; z = c .metres-of3 .result .0 })) (c .before .metres-of2 .ensures)
     ∙ ap (λ (p : Float). Located (record { x = metresOf (a .x); y = metresOf (a .y); z = p })) (c .metres-of3 .ensures)
     ∙ ap (λ (b : Bool). cond b Absent (Located (record { x = metresOf (a .x); y = metresOf (a .y); z = metresOf (a .z) }))) (sym (c .before .before .before .if1 .left) ∙ i .is-absent .ensures)
 

@@ -1,17 +1,10 @@
 -- Only an epoch line has an instant of its own; behind any other line the one before it goes on. Assumes nothing.
 use borrow.Author.Needs.{needs}
-use mathlib.Core.Path.{_≡_, sym, ap, _∙_}
-use mir.Syntax.{w64}
-use mir.Val.{SFits, toZ, ofZ}
-use mir.ValLaws.{toZ-ofZ}
+use mathlib.Core.Path.{sym, ap}
 use Rattle.sp3.specs.declared.line.Line.{Line}
 use Rattle.sp3.specs.Records.{instantAfter}
 use Rattle.sp3.proofs.records.instant_after.Statement.{statement}
 use Rattle.sp3.proofs.records.instant_after.Tie as tie
-
--- a line that leaves the instant as it is
-kept-on : (s : tie.Start) → s .args .t ≡ instantAfter (s .args .l) (s .args .t) → toZ w64 (ofZ w64 (s .args .t)) ≡ instantAfter (s .args .l) (s .args .t)
-kept-on s e = toZ-ofZ w64 (s .args .t) (s .fits .t) ∙ e
 
 enum-known-l : tie.Need-enum-known-l
 enum-known-l c = search needs
@@ -29,19 +22,19 @@ enum-told-4 : tie.Need-enum-told-4
 enum-told-4 c = search needs
 
 returns : tie.Need-returns
-returns c = let s = c .before .before in let u = s .l .given .0 .0 .0 in let h : SFits w64 u = search needs in toZ-ofZ w64 u h ∙ sym (ap (λ (l : Line). instantAfter l (s .before .before .args .t)) (s .l .given .1))
+returns c = let s = c .before in sym (ap (λ (l : Line). instantAfter l (s .before .before .args .t .0)) (s .l .given .1))
 
 returns-2 : tie.Need-returns-2
-returns-2 c = kept-on (c .before .before) (sym (ap (λ (l : Line). instantAfter l (c .before .before .args .t)) (c .enum-told .given .1)))
+returns-2 c = sym (ap (λ (l : Line). instantAfter l (c .before .before .args .t .0)) (c .enum-told .given .1))
 
 returns-3 : tie.Need-returns-3
-returns-3 c = kept-on (c .before .before) (sym (ap (λ (l : Line). instantAfter l (c .before .before .args .t)) (c .enum-told2 .given .1)))
+returns-3 c = sym (ap (λ (l : Line). instantAfter l (c .before .before .args .t .0)) (c .enum-told2 .given .1))
 
 returns-4 : tie.Need-returns-4
-returns-4 c = kept-on (c .before .before) (sym (ap (λ (l : Line). instantAfter l (c .before .before .args .t)) (c .enum-told3 .given .1)))
+returns-4 c = sym (ap (λ (l : Line). instantAfter l (c .before .before .args .t .0)) (c .enum-told3 .given .1))
 
 returns-5 : tie.Need-returns-5
-returns-5 c = kept-on (c .before .before) (sym (ap (λ (l : Line). instantAfter l (c .before .before .args .t)) (c .enum-told4 .given .1)))
+returns-5 c = sym (ap (λ (l : Line). instantAfter l (c .before .before .args .t .0)) (c .enum-told4 .given .1))
 
 pub instant-after-spec : {M : Type 1} → statement M
 instant-after-spec =

@@ -7,16 +7,13 @@ use mathlib.Core.List.{_∷_}
 use lib.ListN.{length}
 use Rattle.sp3.specs.declared.line.Line.{Line}
 use Rattle.sp3.specs.Walks.{saidFrom}
-use mir.Syntax.{w64}
-use mir.Val.{SFits, toZ, ofZ}
-use mir.ValLaws.{toZ-ofZ}
 use Rattle.sp3.proofs.Walk.{said-none, said-eof, said-more, Writing, write-none, write-end, room, write-more}
 use Rattle.sp3.proofs.records.write_records.Statement.{statement}
 use Rattle.sp3.proofs.records.write_records.Tie as tie
 
 abbrev Inv-loop : tie.InvT-loop
 Inv-loop bytes start system satellite instants₀ positions₀ from₀ t₀ count₀ t13 instants positions from t count =
-    (count ≤ from) × Writing (saidFrom system satellite bytes start) instants₀ positions₀ (saidFrom system satellite bytes from) (toZ w64 t) count instants positions
+    (count ≤ from) × Writing (saidFrom system satellite bytes start) instants₀ positions₀ (saidFrom system satellite bytes from) (t .0) count instants positions
 
 abbrev μ-loop : tie.MeasureT-loop
 μ-loop bytes start system satellite instants₀ positions₀ from₀ t₀ count₀ t13 instants positions from t count = length bytes - from
@@ -75,7 +72,7 @@ returns c =
     let S = saidFrom (a .system) (a .satellite .now) (a .bytes .now) in
     let is = a .instants .now in
     let ps = a .positions .now in
-    write-end (S (a .start)) is ps (s .pre .0) (s .pre .1) (S (l .from)) (toZ w64 (l .t)) (l .count) (l .instants) (l .positions) (l .inv .1)
+    write-end (S (a .start)) is ps (s .pre .0) (s .pre .1) (S (l .from)) (l .t .0) (l .count) (l .instants) (l .positions) (l .inv .1)
     (said-eof (a .system) (a .satellite .now) (a .bytes .now) (l .from) (e .line-end .result) (omega arith) (e .line-end .ensures .0) (sym (b .begins .ensures) ∙ c .if1 .taken))
 
 line-of-requires : tie.Need-line-of-requires Inv-loop μ-loop
@@ -91,7 +88,7 @@ put-requires c κs =
     let S = saidFrom (a .system) (a .satellite .now) (a .bytes .now) in
     let is = a .instants .now in
     let ps = a .positions .now in
-    room (S (a .start)) is ps (s .pre .0) (s .pre .1) (S (l .from)) (toZ w64 (l .t)) (l .count) (l .instants) (l .positions) (l .inv .1) (n .line-of .result) (S (e .line-end .result + 1)) (next n)
+    room (S (a .start)) is ps (s .pre .0) (s .pre .1) (S (l .from)) (l .t .0) (l .count) (l .instants) (l .positions) (l .inv .1) (n .line-of .result) (S (e .line-end .result + 1)) (next n)
 
 instant-after-requires : tie.Need-instant-after-requires Inv-loop μ-loop
 instant-after-requires c κs = search needs
@@ -119,10 +116,9 @@ loop-again c =
     let S = saidFrom (a .system) (a .satellite .now) (a .bytes .now) in
     let is = a .instants .now in
     let ps = a .positions .now in
-    let u = c .before .instant-after .result in
-    let h : SFits w64 u = search needs in (
+    let u = c .before .instant-after .result in (
       omega (arith, c .records-of .ensures .1, e .line-end .ensures .0, l .inv .0),
-      write-more (S (a .start)) is ps (s .pre .0) (s .pre .1) (S (l .from)) (toZ w64 (l .t)) (l .count) (l .instants) (l .positions) (l .inv .1) (n .line-of .result) (S (e .line-end .result + 1)) (toZ w64 (ofZ w64 u)) (c .records-of .result) (p .put .last .1 .1 .1 .0) (p .put .last .1 .1 .1 .1 .0) (next n) (toZ-ofZ w64 u h ∙ c .before .instant-after .ensures) (c .records-of .ensures .0) (p .put .ensures .0) (p .put .ensures .1),
+      write-more (S (a .start)) is ps (s .pre .0) (s .pre .1) (S (l .from)) (l .t .0) (l .count) (l .instants) (l .positions) (l .inv .1) (n .line-of .result) (S (e .line-end .result + 1)) (u .0) (c .records-of .result) (p .put .last .1 .1 .1 .0) (p .put .last .1 .1 .1 .1 .0) (next n) (c .before .instant-after .ensures) (c .records-of .ensures .0) (p .put .ensures .0) (p .put .ensures .1),
     )
 
 same-length-3 : tie.Need-same-length-3 Inv-loop μ-loop
@@ -139,7 +135,7 @@ returns-2 c =
     let S = saidFrom (a .system) (a .satellite .now) (a .bytes .now) in
     let is = a .instants .now in
     let ps = a .positions .now in
-    write-end (S (a .start)) is ps (s .pre .0) (s .pre .1) (S (l .from)) (toZ w64 (l .t)) (l .count) (l .instants) (l .positions) (l .inv .1) (said-none (a .system) (a .satellite .now) (a .bytes .now) (l .from) (omega arith))
+    write-end (S (a .start)) is ps (s .pre .0) (s .pre .1) (S (l .from)) (l .t .0) (l .count) (l .instants) (l .positions) (l .inv .1) (said-none (a .system) (a .satellite .now) (a .bytes .now) (l .from) (omega arith))
 
 pub write-records-spec : {M : Type 1} → statement M
 write-records-spec =
