@@ -99,7 +99,8 @@ pub(crate) fn look_over(bytes: &[u8], start: usize, system: TimeSystem, satellit
 
 // The record of a line, if it has one, put at a place of the two areas.
 fn put(l: Line, t: Nanoseconds, count: usize, instants: &mut [i64], positions: &mut [f64])
-    requires { ⌜ (count + length (keptOf l (t .0)) ≤ length (now instants)) × (axes * count + axes * length (keptOf l (t .0)) ≤ length (now positions)) ⌝ }
+    requires { ⌜ (count + length (keptOf l (t .0)) ≤ length (now instants))
+        × (axes * count + axes * length (keptOf l (t .0)) ≤ length (now positions)) ⌝ }
     ensures { λ _. ⌜ now (instants .exit) ≡ putAt count (instantsOf (keptOf l (t .0))) (now (instants .entry)) ⌝ }
     ensures { λ _. ⌜ now (positions .exit) ≡ putAt (axes * count) (positionsOf (keptOf l (t .0))) (now (positions .entry)) ⌝ }
 {
