@@ -16,4 +16,5 @@ pub use entries::refuse_samples;
 pub use instants::beyond;
 pub use limits::AXES;
 pub use limits::LATEST_INSTANT;
+pub use limits::MOST_COORDINATES;
 pub use limits::MOST_SAMPLES;

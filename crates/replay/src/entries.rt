@@ -1,7 +1,6 @@
 // The entries, each found by the number of its name: a function calls the library with what the words say, puts the answer, and says whether the
 // words were a case of the entry; where they were not, the answer means nothing.
 // One more entry is a name at the end of the list, the next number in `answer` or `answer_with_areas`, and a function.
-ghost use Prim.Native.Nat.{_≤_};
 use crate::numbers::double;
 use crate::numbers::unsigned;
 use crate::printer::print_double;
@@ -20,6 +19,7 @@ use crate::words::ten_doubles;
 use crate::words::whole_at;
 use crate::words::wholes_in;
 use check::same;
+use checks::MOST_SAMPLES;
 use orbit::ChebyshevOrbit;
 use orbit::ClosestApproach;
 use orbit::FitAnswer;
@@ -33,8 +33,8 @@ use units::LeapSeconds;
 use units::Nanoseconds;
 use units::Seconds;
 
-// How many elements an area may have.
-const AREA: usize = 4200;
+// How many elements an area may have: one for each sample of the longest recording, and a few behind them. The stored files have fewer positions.
+const AREA: usize = MOST_SAMPLES + 8;
 
 // The number of the entry of this name, from 0 on in the order of this list; how many there are where none has it.
 pub(crate) fn number_of(name: &[u8]) -> usize {
@@ -94,18 +94,12 @@ pub(crate) fn answer(number: usize, case: Case, wholes: &Wholes, doubles: &Doubl
     }
 }
 
-// The length of an area, which stands `back` words from the end of a case; 0 where there is no room for it.
-fn area_length(case: Case, wholes: &Wholes, back: usize) -> usize
-    ensures { λ r. ⌜ r ≤ 4200 ⌝ }
-{
+// The length of an area, which stands `back` words from the end of a case; 0 where the case is shorter.
+fn area_length(case: Case, wholes: &Wholes, back: usize) -> usize {
     if back > case.count {
         return 0;
     }
-    let length = unsigned(whole_at(wholes, case.count - back, 0)) as usize;
-    if length > AREA {
-        return 0;
-    }
-    length
+    unsigned(whole_at(wholes, case.count - back, 0)) as usize
 }
 
 // Has an entry answer that fills two areas, and puts these, whole. Their lengths are the last two words of the case, and before the call they hold markers.
@@ -114,6 +108,12 @@ fn answer_with_areas(number: usize, case: Case, wholes: &Wholes, doubles: &Doubl
     let mut frequencies = [double(0x4444_4444_4444_4444); AREA];
     let m = area_length(case, wholes, 2);
     let n = area_length(case, wholes, 1);
+    if m > AREA {
+        return false;
+    }
+    if n > AREA {
+        return false;
+    }
     let instant_area = &mut instants[0..m];
     let frequency_area = &mut frequencies[0..n];
     let is_case = match number {

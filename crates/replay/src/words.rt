@@ -2,12 +2,15 @@
 // What an entry takes are slices, each after its length, and then words. Every function here takes any words: what a case lacks is a slice of no
 // elements, or any number, and the entry says then that it was no case of it.
 use crate::numbers::unsigned;
+use checks::AXES;
+use checks::MOST_COORDINATES;
+use checks::MOST_SAMPLES;
 use std::num::wrapping_sub_usize;
 use units::Metres;
 use units::Observer;
 
-// How many words a case may have.
-pub(crate) const ROOM: usize = 40960;
+// How many words a case may have: the longest table, the longest recording, and some for a row or a sample too many and for single words.
+pub(crate) const ROOM: usize = (1 + AXES) * MOST_COORDINATES + 2 * MOST_SAMPLES + 64;
 
 // The words of a case as whole numbers.
 pub(crate) type Wholes = [i64; ROOM];
