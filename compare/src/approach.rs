@@ -1,6 +1,8 @@
 //! The measured approach, the steepest slope and the slant range.
 
-use crate::driver::{Ours, compare as compare_call, compare_paper, compare_refusals};
+use crate::driver::{
+    Ours, compare as compare_call, compare_lengths, compare_paper, compare_refusals,
+};
 use crate::ours::approach as ours;
 use crate::tally::{Tally, Total};
 use crate::timing::{Row, row};
@@ -28,6 +30,7 @@ pub fn compare(total: &mut Total) {
         (Entry::SteepestSlope, ours::slope),
     ] {
         compare_paper(total, entry, ours);
+        compare_lengths(total, entry, ours, 1);
         compare_refusals(total, entry, ours);
     }
 }
@@ -105,13 +108,13 @@ pub fn time() -> Vec<Row> {
     let mut slope = 0.0;
     vec![
         row(
-            "estimate_measured_pca_time, 4096",
+            format!("estimate_measured_pca_time, {SAMPLES}"),
             &[()],
             |()| ours::write_approach(&recording, black_box(&mut instant)),
             |()| reference::approach(&samples),
         ),
         row(
-            "steepest_slope, 4096",
+            format!("steepest_slope, {SAMPLES}"),
             &[()],
             |()| ours::write_slope(&recording, black_box(&mut slope)),
             |()| reference::steepest_slope(&samples),

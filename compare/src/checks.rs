@@ -1,4 +1,4 @@
-//! Checks 1 to 7 of the paper, written plainly, and the first of them that an entry's inputs fail.
+//! Checks 1 to 7 of the paper, with the limit of samples of request 2.2, written plainly, and the first of them that an entry's inputs fail.
 
 use crate::calls::{Call, Entry, Part};
 use crate::inputs::integers::INSTANT_LIMIT;
@@ -7,7 +7,7 @@ use crate::inputs::integers::INSTANT_LIMIT;
 pub const COORDINATES: [usize; 2] = [10, 4096];
 
 /// The greatest number of samples.
-pub const SAMPLES: usize = 4096;
+pub const SAMPLES: usize = 1312;
 
 /// The greatest magnitude of a component, in metres.
 pub const FARTHEST: f64 = 1e8;

@@ -1,4 +1,4 @@
-//! One call on both sides, and all the faulty calls of an entry.
+//! One call on both sides, recordings of every length, and all the faulty calls of an entry.
 
 use crate::tally::{Tally, Total};
 use compare::answers::Answer;
@@ -53,6 +53,22 @@ pub fn compare_paper(total: &mut Total, entry: Entry, ours: Ours) {
     let mut tally = Tally::new(format!("{}, the paper's table", entry.name()));
     for call in paper::calls(entry) {
         compare(&mut tally, entry, ours, &call);
+    }
+    tally.finish(total);
+}
+
+/// Compares a recording of each length, from this one to one past the most coordinates of a table; those past the limit of samples are refused by 2.
+pub fn compare_lengths(total: &mut Total, entry: Entry, ours: Ours, from: usize) {
+    let to = COORDINATES[1] + 1;
+    let mut tally = Tally::new(format!("{}, {from} to {to} samples", entry.name()));
+    for samples in from..=to {
+        let expected = compare(&mut tally, entry, ours, &faults::sound(12, samples));
+        let refusal = match samples {
+            1..3 if entry == Entry::EstimateMeasuredPcaTime => 9,
+            1..=SAMPLES => 0,
+            _ => 2,
+        };
+        assert!(expected.refusal == Some(refusal), "{samples} samples");
     }
     tally.finish(total);
 }

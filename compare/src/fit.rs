@@ -1,9 +1,11 @@
 //! The fit and the pass.
 
-use crate::driver::{Ours, compare as compare_call, compare_paper, compare_refusals};
+use crate::driver::{
+    Ours, compare as compare_call, compare_lengths, compare_paper, compare_refusals,
+};
 use crate::ours::fit as ours;
 use crate::tally::{Tally, Total};
-use crate::timing::{Row, row};
+use crate::timing::{Row, row, spacing};
 use compare::calls::{Call, Entry};
 use compare::checks::SAMPLES;
 use compare::inputs::passes::{self, Size};
@@ -18,8 +20,8 @@ const CALLS: usize = 30;
 const KNOWN: usize = 40;
 
 /// The numbers of samples of the long calls, and how many of each.
-const LONG: [usize; 2] = [1312, SAMPLES];
-const LONG_CALLS: usize = 6;
+const LONG: [usize; 2] = [SAMPLES - 1, SAMPLES];
+const LONG_CALLS: usize = 12;
 
 /// How near a clock offset must be found: the search's last step, in seconds.
 const LAST_STEP: f64 = 0.00001;
@@ -33,6 +35,7 @@ pub fn compare(total: &mut Total) {
         (Entry::Pass, ours::pass),
     ] {
         compare_paper(total, entry, ours);
+        compare_lengths(total, entry, ours, SAMPLES + 1);
         compare_refusals(total, entry, ours);
     }
 }
@@ -102,16 +105,13 @@ fn compare_known(
     }
 }
 
-/// Times the fit of 600 and of 1,312 samples with even and uneven tables, and a pass.
+/// Times the fit of 600 samples and of as many as there may be, with even and uneven tables, and a pass.
 pub fn time() -> Vec<Row> {
     let mut rows = Vec::new();
-    for (name, samples, uneven) in [
-        ("fit_satellite, 600 even", 600, false),
-        ("fit_satellite, 1312 even", 1312, false),
-        ("fit_satellite, 600 uneven", 600, true),
-        ("fit_satellite, 1312 uneven", 1312, true),
-    ] {
-        rows.push(time_fit(name, samples, uneven));
+    for uneven in [false, true] {
+        for samples in [600, SAMPLES] {
+            rows.push(time_fit(samples, uneven));
+        }
     }
     rows.push(time_pass());
     rows
@@ -129,7 +129,8 @@ fn timed_call(samples: usize, uneven: bool) -> Call {
 }
 
 /// The fit of one call.
-fn time_fit(name: &'static str, samples: usize, uneven: bool) -> Row {
+fn time_fit(samples: usize, uneven: bool) -> Row {
+    let name = format!("fit_satellite, {samples} {}", spacing(uneven));
     let call = timed_call(samples, uneven);
     let orbit = reference::orbit(&call.table);
     let samples = reference::samples(&call.recording);

@@ -1,6 +1,6 @@
 //! The means by the second.
 
-use crate::driver::{compare as compare_call, compare_paper, compare_refusals};
+use crate::driver::{compare as compare_call, compare_lengths, compare_paper, compare_refusals};
 use crate::ours::means as ours;
 use crate::tally::{Tally, Total};
 use crate::timing::{Row, row};
@@ -19,6 +19,7 @@ const RECORDINGS: usize = 300;
 pub fn compare(total: &mut Total) {
     compare_means(total);
     compare_paper(total, Entry::DownsampleData, ours::means);
+    compare_lengths(total, Entry::DownsampleData, ours::means, 1);
     compare_refusals(total, Entry::DownsampleData, ours::means);
 }
 
@@ -53,18 +54,10 @@ fn compare_means(total: &mut Total) {
 pub fn time() -> Vec<Row> {
     let mut random = Random::new(51);
     let in_order = instants_in_order(SAMPLES);
-    let mut rows = vec![time_means(
-        &mut random,
-        "downsample_data, 4096 in order",
-        in_order,
-    )];
-    for (name, count) in [
-        ("downsample_data, 4096 shuffled", SAMPLES),
-        ("downsample_data, 65 shuffled", 65),
-        ("downsample_data, 16 shuffled", 16),
-    ] {
+    let mut rows = vec![time_means(&mut random, "in order", in_order)];
+    for count in [SAMPLES, 65, 16] {
         let instants = shuffled(&mut random, count);
-        rows.push(time_means(&mut random, name, instants));
+        rows.push(time_means(&mut random, "shuffled", instants));
     }
     rows
 }
@@ -83,8 +76,9 @@ fn shuffled(random: &mut Random, count: usize) -> Vec<i64> {
     instants
 }
 
-/// The means of samples at these instants.
-fn time_means(random: &mut Random, name: &'static str, instants: Vec<i64>) -> Row {
+/// The means of samples at these instants, which are in this order.
+fn time_means(random: &mut Random, order: &str, instants: Vec<i64>) -> Row {
+    let name = format!("downsample_data, {} {order}", instants.len());
     let recording = Recording {
         frequencies: recordings::falling(random, &instants),
         instants,

@@ -3,10 +3,11 @@
 use crate::driver::{Ours, compare as compare_call, compare_paper, compare_refusals};
 use crate::ours::orbit as ours;
 use crate::tally::{Tally, Total};
-use crate::timing::{Row, row, row_of_ours};
+use crate::timing::{Row, row, row_of_ours, spacing};
 use chrono::{DateTime, Utc};
 use compare::answers::Answer;
 use compare::calls::{Call, Entry};
+use compare::checks::COORDINATES;
 use compare::inputs::closest;
 use compare::inputs::integers::INSTANT_LIMIT;
 use compare::inputs::orbits::Orbit;
@@ -141,21 +142,13 @@ pub fn time() -> Vec<Row> {
     let mut rows = Vec::new();
     rows.push(time_model());
     rows.push(time_evaluation());
-    for (name, length, uneven) in [
-        ("propagate_ecef, 10 rows even", 10, false),
-        ("propagate_ecef, 180 rows even", 180, false),
-        ("propagate_ecef, 4096 rows even", 4096, false),
-        ("propagate_ecef, 10 rows uneven", 10, true),
-        ("propagate_ecef, 180 rows uneven", 180, true),
-        ("propagate_ecef, 4096 rows uneven", 4096, true),
-    ] {
-        rows.push(time_propagation(name, length, uneven));
+    let [least, greatest] = COORDINATES;
+    let lengths = [least, 180, greatest];
+    for uneven in [false, true] {
+        rows.extend(lengths.map(|length| time_propagation(length, uneven)));
     }
-    rows.push(time_checks("its checks alone, 10 rows", 10));
-    rows.push(time_checks("its checks alone, 180 rows", 180));
-    rows.push(time_checks("its checks alone, 4096 rows", 4096));
-    rows.push(time_closest("find_pca_time, 180 rows even", false));
-    rows.push(time_closest("find_pca_time, 180 rows uneven", true));
+    rows.extend(lengths.map(time_checks));
+    rows.extend([false, true].map(time_closest));
     rows
 }
 
@@ -210,7 +203,8 @@ fn time_evaluation() -> Row {
 }
 
 /// The propagation, as it is called: ours with its checks of the whole table.
-fn time_propagation(name: &'static str, rows: usize, uneven: bool) -> Row {
+fn time_propagation(rows: usize, uneven: bool) -> Row {
+    let name = format!("propagate_ecef, {rows} rows {}", spacing(uneven));
     let mut random = Random::new(35);
     let table = timed_table(&mut random, rows, uneven);
     let orbit = reference::orbit(&table);
@@ -225,7 +219,8 @@ fn time_propagation(name: &'static str, rows: usize, uneven: bool) -> Row {
 }
 
 /// A table whose very last component is wrong: all checks are made, and nothing else.
-fn time_checks(name: &'static str, rows: usize) -> Row {
+fn time_checks(rows: usize) -> Row {
+    let name = format!("its checks alone, {rows} rows");
     let mut table = timed_table(&mut Random::new(36), rows, false);
     *table.positions.last_mut().expect("a table has rows") = f64::NAN;
     let mut motion = [0.0; 6];
@@ -235,7 +230,8 @@ fn time_checks(name: &'static str, rows: usize) -> Row {
 }
 
 /// The closest approach of satellites that pass overhead.
-fn time_closest(name: &'static str, uneven: bool) -> Row {
+fn time_closest(uneven: bool) -> Row {
+    let name = format!("find_pca_time, 180 rows {}", spacing(uneven));
     let mut random = Random::new(37);
     let draw = [closest::overhead, closest::overhead_unevenly][usize::from(uneven)];
     let calls: Vec<(Call, OrbitModel)> = (0..TIMED)

@@ -11,7 +11,7 @@ const ROUND: Duration = Duration::from_millis(20);
 
 /// The nanoseconds of a call of one function on both sides, or on ours alone.
 pub struct Row {
-    name: &'static str,
+    name: String,
     ours: f64,
     rust: Option<f64>,
     /// How many bytes a call reads, where these are counted.
@@ -30,7 +30,7 @@ impl Row {
 
 /// Times one function on both sides.
 pub fn row<I, A, B>(
-    name: &'static str,
+    name: impl Into<String>,
     inputs: &[I],
     mut ours: impl FnMut(&I) -> A,
     mut rust: impl FnMut(&I) -> B,
@@ -42,7 +42,7 @@ pub fn row<I, A, B>(
         rust_rounds.push(round(inputs, &mut rust));
     }
     Row {
-        name,
+        name: name.into(),
         ours: middle(our_rounds),
         rust: Some(middle(rust_rounds)),
         bytes: None,
@@ -50,14 +50,23 @@ pub fn row<I, A, B>(
 }
 
 /// Times something that the Rust does not do.
-pub fn row_of_ours<I, A>(name: &'static str, inputs: &[I], mut ours: impl FnMut(&I) -> A) -> Row {
+pub fn row_of_ours<I, A>(
+    name: impl Into<String>,
+    inputs: &[I],
+    mut ours: impl FnMut(&I) -> A,
+) -> Row {
     let rounds = (0..ROUNDS).map(|_| round(inputs, &mut ours));
     Row {
-        name,
+        name: name.into(),
         ours: middle(rounds.collect()),
         rust: None,
         bytes: None,
     }
+}
+
+/// The word for a table's spacing in the name of a row.
+pub fn spacing(uneven: bool) -> &'static str {
+    if uneven { "uneven" } else { "even" }
 }
 
 /// The bar for ours over the Rust's: none for what has a hardware instruction on the Rust's side alone, or no Rust side.
@@ -84,10 +93,10 @@ pub fn print(rows: &[Row]) {
     print_line(["ns per call", "ours", "Rust", "ours / Rust", "bar", "", ""]);
     for row in rows {
         let ratio = row.rust.map(|rust| row.ours / rust);
-        let bar = bar(row.name);
+        let bar = bar(&row.name);
         let above = ratio.zip(bar).is_some_and(|(ratio, bar)| ratio > bar);
         print_line([
-            row.name,
+            &row.name,
             &number(row.ours),
             &some(row.rust),
             &some(ratio),

@@ -109,9 +109,9 @@ fn miscounts() -> Vec<Change> {
     list
 }
 
-/// Check 2: the number of samples, and the number of frequencies.
+/// Check 2: the number of samples (among them as many as a table may have coordinates), and the number of frequencies.
 fn wrong_samples() -> Vec<Change> {
-    let mut list: Vec<Change> = [0, SAMPLES + 1]
+    let mut list: Vec<Change> = [0, SAMPLES + 1, COORDINATES[1]]
         .map(|samples| {
             fault(2, Part::Samples, move |call| {
                 resize_recording(&mut call.recording, samples);

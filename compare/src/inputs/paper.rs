@@ -76,12 +76,12 @@ impl Line {
     }
 
     /// A call that is refused by this number.
-    fn refused(says: &str, call: Call, number: u8) -> Self {
+    fn refused(says: impl Into<String>, call: Call, number: u8) -> Self {
         Line::new(says, call, move |_, answer| answer.refusal == Some(number))
     }
 
     /// A call that is not refused.
-    fn passes(says: &str, call: Call) -> Self {
+    fn passes(says: impl Into<String>, call: Call) -> Self {
         Line::new(says, call, |_, answer| is_answered(answer))
     }
 
@@ -420,20 +420,21 @@ fn overflowing_means(entry: Entry) -> Vec<Line> {
     vec![Line::refused("1e300 and -1e300 Hz", call, 10)]
 }
 
-/// 9 and 10 coordinates, at every entry that takes a table; the other end, 4,096 and 4,097, is too long a line to be stored and is the judge's (see `faults`).
+/// The least number of coordinates and one less, at every entry that takes a table; the other end is too long a line to be stored and is the judge's (see `faults`).
 fn numbers_of_coordinates(entry: Entry) -> Vec<Line> {
     if !entry.takes(Part::Table) {
         return Vec::new();
     }
     let least = COORDINATES[0];
+    let too_few = least - 1;
     vec![
-        Line::refused("9 coordinates", sound(least - 1, 4), 1),
-        Line::passes("10 coordinates", sound(least, 4)),
+        Line::refused(format!("{too_few} coordinates"), sound(too_few, 4), 1),
+        Line::passes(format!("{least} coordinates"), sound(least, 4)),
     ]
 }
 
-/// 4,096 and 4,097 samples, at every entry that takes samples. Of 4,096 the last one counts: without it the answer is another.
-/// The areas for 4,097 are short, so that the stored answer is; check 3 comes after check 2.
+/// The most samples and one more, at every entry that takes samples. Of the most the last one counts: without it the answer is another.
+/// The areas for one more are short, so that the stored answer is; check 3 comes after check 2.
 fn numbers_of_samples(entry: Entry) -> Vec<Line> {
     if !entry.takes(Part::Samples) {
         return Vec::new();
@@ -445,12 +446,12 @@ fn numbers_of_samples(entry: Entry) -> Vec<Line> {
         ..too_many
     };
     vec![
-        Line::new("4,096 samples", most, move |call, answer| {
+        Line::new(format!("{SAMPLES} samples"), most, move |call, answer| {
             let mut without_last = call.clone();
             without_last.recording.instants.pop();
             without_last.recording.frequencies.pop();
             is_answered(answer) && *answer != expected::answer(entry, &without_last)
         }),
-        Line::refused("4,097 samples", too_many, 2),
+        Line::refused(format!("{} samples", SAMPLES + 1), too_many, 2),
     ]
 }

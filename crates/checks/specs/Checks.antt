@@ -1,4 +1,4 @@
--- Checks 1 to 7 of document 01: each says when it fails.
+-- Checks 1 to 7 of document 01: each says when it fails. Where its words have a number, "…" stands for it: Limits has them all.
 use Prim.Native.Nat.{_*_}
 use mathlib.Core.Bool.{Bool, true, false, not, _&&_, _||_}
 use mathlib.Core.List.{List, [], _∷_}
@@ -17,14 +17,14 @@ unfoldable pub any : {A : Type 0} → (A → Bool) → List A → Bool
 any p [] = false
 any p (x ∷ xs) = p x || any p xs
 
--- 1. "Fewer than 10 or more than 4,096 coordinates, or a position slice that is not three times as long as the instants"
+-- 1. "Fewer than … or more than … coordinates, or a position slice that is not three times as long as the instants"
 abbrev pub miscounted : List ℤ → List Float → Bool
 miscounted instants positions =
     ltb (length instants) leastCoordinates
     || ltb mostCoordinates (length instants)
     || not (eqb (length positions) (axes * length instants))
 
--- 2. "No sample, more than 4,096, or two sample slices of unequal length"
+-- 2. "No sample, more than … or two sample slices of unequal length"
 abbrev pub unsampled : List ℤ → List Float → Bool
 unsampled instants frequencies = eqb (length instants) 0 || ltb mostSamples (length instants) || not (eqb (length frequencies) (length instants))
 
@@ -32,7 +32,7 @@ unsampled instants frequencies = eqb (length instants) 0 || ltb mostSamples (len
 abbrev pub tooShort : List ℤ → List ℤ → List Float → Bool
 tooShort samples instantArea frequencyArea = ltb (length instantArea) (length samples) || ltb (length frequencyArea) (length samples)
 
--- 4. "An instant whose magnitude is over 4,000,000,000,000,000,000"
+-- 4. "An instant whose magnitude is over …"
 abbrev pub beyond : ℤ → Bool
 beyond t = ltb farthestInstant (natAbs t)
 
@@ -42,11 +42,11 @@ unrising [] = false
 unrising (a ∷ []) = false
 unrising (a ∷ b ∷ r) = not (ltZ a b) || unrising (b ∷ r)
 
--- 6. "a component not finite or over 100,000,000 m in magnitude": an infinity or a NaN is not at most that
+-- 6. "a component not finite or over … in magnitude": an infinity or a NaN is not at most that
 abbrev pub unreachable : Float → Bool
 unreachable c = not (le (magnitudeOf c) largestComponent)
 
--- 6. "or with all three magnitudes under 1,000,000 m (kilometres, or a blank entry)"
+-- 6. "or with all three magnitudes under … (kilometres, or a blank entry)"
 abbrev pub inside : Float → Bool
 inside c = lt (magnitudeOf c) leastComponent
 

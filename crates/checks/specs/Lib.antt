@@ -1,4 +1,4 @@
--- The limits of document 01, its checks 1 to 7, which entry makes which.
+-- Checks 1 to 7 of document 01, their limits, which entry makes which.
 pub mod Limits
 pub mod Checks
 pub mod Entries

@@ -1,4 +1,4 @@
--- The numbers of document 01's checks, each named once.
+-- The numbers of document 01's checks, the limit of samples as document 02 has it, each named once.
 use Prim.Native.Nat.{ℕ}
 use mathlib.Core.Bool.{false}
 use lib.IntN.{pos}
@@ -17,9 +17,9 @@ mostCoordinates = 4096
 abbrev pub axes : ℕ
 axes = 3
 
--- "No sample, more than 4,096"
+-- "The limit of samples in refusal 2 becomes 1,312: that many pass, 1,313 are refused" (document 02, request 2.2)
 abbrev pub mostSamples : ℕ
-mostSamples = 4096
+mostSamples = 1312
 
 -- "An instant whose magnitude is over 4,000,000,000,000,000,000", in nanoseconds
 abbrev pub farthestInstant : ℕ

@@ -1,4 +1,4 @@
-// The numbers of document 01's checks by name; specs/Limits.antt has their twins (both ends of an instant's range as one magnitude).
+// The numbers of the checks by name; specs/Limits.antt has their twins (both ends of an instant's range as one magnitude).
 
 // The fewest coordinates that a table may have.
 pub const LEAST_COORDINATES: usize = 10;
@@ -10,7 +10,7 @@ pub const MOST_COORDINATES: usize = 4096;
 pub const AXES: usize = 3;
 
 // The most samples that a recording may have.
-pub const MOST_SAMPLES: usize = 4096;
+pub const MOST_SAMPLES: usize = 1312;
 
 // The earliest instant that is taken, in nanoseconds from 1970-01-01.
 pub const EARLIEST_INSTANT: i64 = -4_000_000_000_000_000_000;
