@@ -18,8 +18,8 @@
  *
  *    1  What is wrong: fewer than 10 or more than 4,096 coordinates, or not three position numbers for each instant.
  *       What to do: lend a part of the table with 10 to 4,096 coordinates, and all three numbers of each.
- *    2  What is wrong: no sample, more than 4,096, or not one frequency for each instant.
- *       What to do: cut the recording into parts of at most 4,096 samples, each instant with its frequency.
+ *    2  What is wrong: no sample, more than 1,312, or not one frequency for each instant.
+ *       What to do: see whether the receiver is stuck, and lend one pass of at most 1,312 samples, each instant with its frequency.
  *    3  What is wrong: an area for the means is shorter than the recording.
  *       What to do: lend two areas at least as long as the recording.
  *    4  What is wrong: an instant is more than 4,000,000,000,000,000,000 ns (some 126 years) from 1970-01-01.
@@ -60,6 +60,9 @@ typedef struct { double seconds; } orbit_seconds;
 typedef struct { double hertz; } orbit_hertz;
 typedef struct { int64_t nanoseconds; } orbit_nanoseconds;
 typedef struct { int16_t leap_seconds; } orbit_leap_seconds;
+
+/* The most coordinates that a table may have (refusal 1), and the most samples of a recording (refusal 2). */
+enum { ORBIT_MOST_COORDINATES = 4096, ORBIT_MOST_SAMPLES = 1312 };
 
 /* A velocity, in metres for each second. */
 typedef struct { double metres_per_second; } orbit_metres_per_second;
@@ -152,8 +155,9 @@ uint8_t orbit_pass(const int64_t *instants, size_t instant_count, const double *
 /* The positions of one satellite in the bytes of an orbit file in SP3-c, in the file's order, as instants and x, y, z in metres at the
  * front of the two areas; the rest of each stays. The satellite is its three bytes in the file, such as {'G', '0', '5'}. A file in UTC
  * gives its own instants; one in GPS time gives them less the leap seconds. A position of three zeros is absent and left out. The number
- * of positions goes into count. Instants that fall or repeat are given as they stand, and so are more than 4,096 positions: such a table is
- * refused by 5 or 1 where it is used. A file that was cut off behind a whole line is read as far as it goes. Refuses by 11, 12, 13. */
+ * of positions goes into count. Instants that fall or repeat are given as they stand, and so are more positions than a table may have:
+ * such a table is refused by 5 or 1 where it is used. A file that was cut off behind a whole line is read as far as it goes. Refuses by
+ * 11, 12, 13. */
 uint8_t orbit_read_sp3(const uint8_t *bytes, size_t byte_count, const uint8_t satellite[3], orbit_leap_seconds leap_seconds,
                        int64_t *instants, size_t instant_count, double *positions, size_t position_count, uint64_t *count);
 

@@ -27,7 +27,6 @@ static const struct { double clock_offset, frequency_offset; } known[] = {
 
 enum {
     LONGEST_FILE = 1 << 20, /* bytes */
-    LONGEST_TABLE = 4096,   /* coordinates: check 1 lets no more pass */
     SAMPLES = sizeof recording / sizeof recording[0],
     MEANS_SHOWN = 3
 };
@@ -40,9 +39,9 @@ typedef struct {
 
 /* The table, as the library reads it from an orbit file and takes it again. */
 typedef struct {
-    int64_t instants[LONGEST_TABLE];     /* ns since 1970-01-01 */
-    double positions[3 * LONGEST_TABLE]; /* m */
-    uint64_t count;                      /* of coordinates */
+    int64_t instants[ORBIT_MOST_COORDINATES];     /* ns since 1970-01-01 */
+    double positions[3 * ORBIT_MOST_COORDINATES]; /* m */
+    uint64_t count;                               /* of coordinates */
 } pass_table;
 
 /* The recording, as the library takes it. */
@@ -51,12 +50,12 @@ typedef struct {
     double frequencies[SAMPLES]; /* Hz */
 } pass_recording;
 
-/* What the library answers to both. The areas for the means are as long as the recording, since there may be as many means. */
+/* What the library answers to both. The areas for the means are as long as any recording may be, since there may be as many means. */
 typedef struct {
-    int64_t mean_instants[SAMPLES];   /* ns since 1970-01-01, by the recorder's clock */
-    double mean_frequencies[SAMPLES]; /* Hz */
+    int64_t mean_instants[ORBIT_MOST_SAMPLES];   /* ns since 1970-01-01, by the recorder's clock */
+    double mean_frequencies[ORBIT_MOST_SAMPLES]; /* Hz */
     orbit_report report;
-    uint64_t count;                   /* of means */
+    uint64_t count;                              /* of means */
 } pass_answer;
 
 static orbit_hertz centre_frequency(void)
@@ -90,7 +89,8 @@ static void load_recording(pass_recording *samples)
 static uint8_t read_table(const sp3_file *file, pass_table *table)
 {
     return orbit_read_sp3(file->bytes, file->count, satellite, leap_seconds,
-                          table->instants, LONGEST_TABLE, table->positions, 3 * LONGEST_TABLE, &table->count);
+                          table->instants, ORBIT_MOST_COORDINATES, table->positions, 3 * ORBIT_MOST_COORDINATES,
+                          &table->count);
 }
 
 /* The whole pass: 0, or the number of the refusal. */
@@ -100,7 +100,7 @@ static uint8_t run_pass(const pass_table *table, const pass_recording *samples, 
     return orbit_pass(table->instants, table->count, table->positions, 3 * table->count,
                       samples->instants, SAMPLES, samples->frequencies, SAMPLES,
                       ox, oy, oz, centre_frequency(),
-                      answer->mean_instants, SAMPLES, answer->mean_frequencies, SAMPLES,
+                      answer->mean_instants, ORBIT_MOST_SAMPLES, answer->mean_frequencies, ORBIT_MOST_SAMPLES,
                       &answer->report, &answer->count);
 }
 

@@ -13,8 +13,8 @@ typedef struct {
 static const refusal_text texts[] = {
     {1, "fewer than 10 or more than 4,096 coordinates, or not three position numbers for each instant.",
      "lend a part of the table with 10 to 4,096 coordinates, and all three numbers of each."},
-    {2, "no sample, more than 4,096, or not one frequency for each instant.",
-     "cut the recording into parts of at most 4,096 samples, each instant with its frequency."},
+    {2, "no sample, more than 1,312, or not one frequency for each instant.",
+     "see whether the receiver is stuck, and lend one pass of at most 1,312 samples, each instant with its frequency."},
     {3, "an area for the means is shorter than the recording.",
      "lend two areas at least as long as the recording."},
     {4, "an instant is more than 4,000,000,000,000,000,000 ns (some 126 years) from 1970-01-01.",

@@ -2,7 +2,8 @@
 //! braces, and a comment that says what they are.
 
 use orbit::{
-    Hertz, LeapSeconds, Metres, Nanoseconds, Position, Recording, Refusal, Seconds, Table,
+    Hertz, LeapSeconds, MOST_COORDINATES, Metres, Nanoseconds, Position, Recording, Refusal,
+    Seconds, Table,
 };
 use std::fmt::Debug;
 use std::str::FromStr;
@@ -15,9 +16,6 @@ pub const SATELLITE: [u8; 3] = *b"L01";
 
 /// How far GPS time was ahead of UTC on the day of the pass.
 pub const LEAP_SECONDS: LeapSeconds = LeapSeconds(18);
-
-/// The most coordinates of a table: check 1 lets no more pass.
-pub const LONGEST_TABLE: usize = 4096;
 
 /// The offsets that went into the recording.
 pub struct Known {
@@ -75,8 +73,8 @@ impl Sample {
 
 /// The instants and positions of the satellite in an orbit file.
 fn read_table(file: &[u8]) -> Result<(Vec<Nanoseconds>, Vec<Position>), Refusal> {
-    let mut instants = vec![Nanoseconds(0); LONGEST_TABLE];
-    let mut positions = vec![Position::default(); LONGEST_TABLE];
+    let mut instants = vec![Nanoseconds(0); MOST_COORDINATES];
+    let mut positions = vec![Position::default(); MOST_COORDINATES];
     let count = orbit::read_sp3(file, SATELLITE, LEAP_SECONDS, &mut instants, &mut positions)?;
     instants.truncate(count);
     positions.truncate(count);

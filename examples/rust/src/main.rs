@@ -3,8 +3,11 @@
 
 mod data;
 
-use data::{Known, LEAP_SECONDS, LONGEST_TABLE, ORBIT_FILE, SATELLITE, Sample};
-use orbit::{Hertz, MeansArea, Metres, Nanoseconds, Position, Recording, Refusal, Report, Seconds};
+use data::{Known, LEAP_SECONDS, ORBIT_FILE, SATELLITE, Sample};
+use orbit::{
+    Hertz, MOST_COORDINATES, MOST_SAMPLES, MeansArea, Metres, Nanoseconds, Position, Recording,
+    Refusal, Report, Seconds,
+};
 use std::process::ExitCode;
 
 /// How many means are printed, beside the last.
@@ -14,9 +17,12 @@ const MEANS_SHOWN: usize = 3;
 const MARK: (Nanoseconds, Hertz) = (Nanoseconds(-1), Hertz(-1.0));
 
 /// The same for the areas of a table.
-const MARKED_TABLE: ([Nanoseconds; LONGEST_TABLE], [Position; LONGEST_TABLE]) = (
-    [Nanoseconds(-1); LONGEST_TABLE],
-    [[Metres(-1.0); 3]; LONGEST_TABLE],
+const MARKED_TABLE: (
+    [Nanoseconds; MOST_COORDINATES],
+    [Position; MOST_COORDINATES],
+) = (
+    [Nanoseconds(-1); MOST_COORDINATES],
+    [[Metres(-1.0); 3]; MOST_COORDINATES],
 );
 
 /// What is lent for the means of the pass.
@@ -26,11 +32,11 @@ struct Areas {
 }
 
 impl Areas {
-    /// As long as the recording, since there may be as many means; all marked.
-    fn new(samples: usize) -> Self {
+    /// As long as any recording may be, since there may be as many means; all marked.
+    fn new() -> Self {
         Areas {
-            instants: vec![MARK.0; samples],
-            frequencies: vec![MARK.1; samples],
+            instants: vec![MARK.0; MOST_SAMPLES],
+            frequencies: vec![MARK.1; MOST_SAMPLES],
         }
     }
 
@@ -84,7 +90,7 @@ fn show_pass(sample: &Sample) -> Result<bool, Refusal> {
     );
     let satellite = SATELLITE.escape_ascii();
     println!("table             {coordinates} coordinates of {satellite} from table.sp3");
-    let mut areas = Areas::new(samples);
+    let mut areas = Areas::new();
     let report = run_pass(sample, &mut areas)?;
     let means = areas.means(&report);
     print_report(&report);
@@ -173,7 +179,7 @@ fn show_kilometres(mut sample: Sample) -> bool {
         *component /= 1000.0;
     }
     println!("\nThe same pass, the table in kilometres");
-    let mut areas = Areas::new(sample.samples.len());
+    let mut areas = Areas::new();
     let refusal = run_pass(&sample, &mut areas).err();
     print_refused(refusal, Refusal::PositionBeyondLimits, areas.untouched())
 }

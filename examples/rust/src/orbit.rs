@@ -43,6 +43,12 @@ pub struct MetresPerSecond(pub f64);
 #[derive(Clone, Copy, Debug, Default, PartialEq, PartialOrd)]
 pub struct HertzPerSecond(pub f64);
 
+/// The most coordinates that a table may have (refusal 1).
+pub const MOST_COORDINATES: usize = 4096;
+
+/// The most samples that a recording may have (refusal 2).
+pub const MOST_SAMPLES: usize = 1312;
+
 /// x, y and z, earth-centred and earth-fixed.
 pub type Position = [Metres; 3];
 
@@ -473,8 +479,8 @@ pub fn pass(
 /// The positions of one satellite in the bytes of an orbit file in SP3-c, in the file's order, at the front of the areas; their
 /// number. The rest of each area stays. The satellite is its three bytes in the file, such as `*b"G05"`. A file in UTC gives its
 /// own instants; one in GPS time gives them less the leap seconds. A position of three zeros is absent and left out.
-/// Instants that fall or repeat are given as they stand, and so are more than 4,096 positions: such a table is refused where it
-/// is used. A file that was cut off behind a whole line is read as far as it goes. Refuses by 11, 12, 13.
+/// Instants that fall or repeat are given as they stand, and so are more positions than [`MOST_COORDINATES`]: such a table is
+/// refused where it is used. A file that was cut off behind a whole line is read as far as it goes. Refuses by 11, 12, 13.
 pub fn read_sp3(
     bytes: &[u8],
     satellite: [u8; 3],

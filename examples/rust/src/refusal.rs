@@ -35,8 +35,8 @@ const TEXTS: &[Text] = &[
     ),
     (
         SampleCount,
-        "no sample, more than 4,096, or not one frequency for each instant.",
-        "cut the recording into parts of at most 4,096 samples, each instant with its frequency.",
+        "no sample, more than 1,312, or not one frequency for each instant.",
+        "see whether the receiver is stuck, and lend one pass of at most 1,312 samples, each instant with its frequency.",
     ),
     (
         AreaTooShort,

@@ -5,8 +5,8 @@ mod data;
 
 use data::{LEAP_SECONDS, ORBIT_FILE, SATELLITE, Sample};
 use orbit::{
-    Hertz, HertzPerSecond, LeapSeconds, MeansArea, Metres, MetresPerSecond, Nanoseconds, Position,
-    Recording, Refusal, Report, Seconds, Table,
+    Hertz, HertzPerSecond, LeapSeconds, MOST_COORDINATES, MOST_SAMPLES, MeansArea, Metres,
+    MetresPerSecond, Nanoseconds, Position, Recording, Refusal, Report, Seconds, Table,
 };
 
 const SECOND: i64 = 1_000_000_000;
@@ -315,6 +315,51 @@ fn other_refusals() {
     let refusal = orbit::estimate_measured_pca_time(rising).unwrap_err();
     assert_eq!((refusal, refusal.number()), (Refusal::NoApproach, 9));
     assert!(refusal.to_string().starts_with("refused by 9: no slope"));
+}
+
+/// What each entry that takes a recording refuses by where the sample data's is continued to so many samples.
+fn refusals_of_samples(count: usize) -> [Option<Refusal>; 5] {
+    let mut sample = Sample::load();
+    let last = sample.samples.len() - 1;
+    sample.samples.resize(count, sample.samples[last]);
+    sample.frequencies.resize(count, sample.frequencies[last]);
+    let areas = MeansArea {
+        instants: &mut vec![Nanoseconds(0); count],
+        frequencies: &mut vec![Hertz(0.0); count],
+    };
+    let recording = sample.recording();
+    let (table, observer, f0) = (sample.table(), sample.observer, sample.centre_frequency);
+    [
+        orbit::downsample_data(recording, areas).err(),
+        orbit::estimate_measured_pca_time(recording).err(),
+        orbit::steepest_slope(recording).err(),
+        orbit::fit_satellite(table, recording, observer, f0, sample.samples[0]).err(),
+        pass(&sample).0.err(),
+    ]
+}
+
+#[test]
+fn the_most_samples_pass_and_one_more_is_refused() {
+    assert_eq!(refusals_of_samples(MOST_SAMPLES), [None; 5]);
+    let refused = [Some(Refusal::SampleCount); 5];
+    assert_eq!(refusals_of_samples(MOST_SAMPLES + 1), refused);
+}
+
+#[test]
+fn the_most_coordinates_pass_and_one_more_is_refused() {
+    let rows = MOST_COORDINATES as i64 + 1;
+    let instants: Vec<Nanoseconds> = (0..rows).map(|k| Nanoseconds(k * SECOND)).collect();
+    let positions = vec![[Metres(7e6); 3]; MOST_COORDINATES + 1];
+    let propagated = |count: usize| {
+        let table = Table {
+            instants: &instants[..count],
+            positions: &positions[..count],
+        };
+        orbit::propagate_ecef(table, Nanoseconds(0)).err()
+    };
+    assert_eq!(propagated(MOST_COORDINATES), None);
+    let refused = Some(Refusal::CoordinateCount);
+    assert_eq!(propagated(MOST_COORDINATES + 1), refused);
 }
 
 #[test]
