@@ -61,11 +61,11 @@ typedef struct { double hertz; } orbit_hertz;
 typedef struct { int64_t nanoseconds; } orbit_nanoseconds;
 typedef struct { int16_t leap_seconds; } orbit_leap_seconds;
 
-/* The most coordinates that a table may have (refusal 1), and the most samples of a recording (refusal 2). */
-enum { ORBIT_MOST_COORDINATES = 4096, ORBIT_MOST_SAMPLES = 1312 };
-
 /* A velocity, in metres for each second. */
 typedef struct { double metres_per_second; } orbit_metres_per_second;
+
+/* The most coordinates that a table may have (refusal 1), and the most samples of a recording (refusal 2). */
+enum { ORBIT_MOST_COORDINATES = 4096, ORBIT_MOST_SAMPLES = 1312 };
 
 /* What a fit answers. The clock offset is above zero where the recorder's clock is ahead of the table's. */
 typedef struct { orbit_seconds clock_offset; orbit_hertz frequency_offset; orbit_hertz rmse; } orbit_report;

@@ -66,10 +66,10 @@ fn compare_calls(total: &mut Total, entry: Entry, ours: Ours, seed: u64) {
     tally.finish(total);
 }
 
-/// How many samples: mostly few, up to 600.
+/// How many samples: mostly few, up to three less than there may be, since some kinds add three.
 fn count(random: &mut Random) -> usize {
     match random.below(10) {
-        0 => 1 + random.below(600),
+        0 => 1 + random.below(SAMPLES - 3),
         1..4 => 1 + random.below(150),
         4 => 1 + random.below(4),
         _ => 1 + random.below(40),
