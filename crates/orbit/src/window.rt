@@ -1,7 +1,7 @@
 // The window of ten coordinates about an instant, and its Chebyshev model.
 ghost use mathlib.Core.Path.{_≡_};
 ghost use mathlib.Core.Bool.{false};
-ghost use Prim.Native.Nat.{_+_, _*_, _<_, _≤_};
+ghost use Prim.Native.Nat.{_+_, _*_, _<_, _≤_, max, min};
 ghost use lib.ListN.{length};
 ghost use Rattle.checks.specs.Checks.{unrising};
 ghost use Rattle.checks.specs.Limits.{axes};
@@ -56,18 +56,33 @@ fn last_before(instants: &[i64], t: Nanoseconds) -> usize
     base
 }
 
-// The start of the window of ten about coordinate idx of n.
+// The larger of two counts.
+fn larger(a: usize, b: usize) -> usize
+    ensures { λ r. ⌜ r ≡ max a b ⌝ }
+{
+    if a > b {
+        return a;
+    }
+    b
+}
+
+// The smaller of two counts.
+fn smaller(a: usize, b: usize) -> usize
+    ensures { λ r. ⌜ r ≡ min a b ⌝ }
+{
+    if a < b {
+        return a;
+    }
+    b
+}
+
+// The start of the window of ten about coordinate idx of n: four before idx, but not before the first, and not after the last start that leaves ten.
 fn start_of(idx: usize, n: usize) -> usize
     requires { ⌜ (10 ≤ n) × (idx < n) ⌝ }
     ensures { λ r. ⌜ (r + 10 ≤ n) × (r ≡ startOf idx n) ⌝ }
 {
-    if idx < 4 {
-        return 0;
-    }
-    if idx >= n - 5 {
-        return n - 10;
-    }
-    idx - 4
+    let start = larger(idx, 4) - 4;
+    smaller(start, n - 10)
 }
 
 // The start of the window about an instant.

@@ -1,31 +1,41 @@
--- By the two tests, which are the definition's. Assumes nothing.
+-- Below 4 both forms are 0; from there on they choose differently only where idx + 6 is n, and there idx − 4 is n − 10 itself. Assumes nothing.
+use mathlib.Core.Path.{_≡_, refl, ap, _∙_}
+use mathlib.Core.Bool.{Bool, true, false, cond}
+use Prim.Native.Nat.{ℕ, _+_, _-_, _≤_, max, min}
 use native.Mathlib.Omega.{arith}
-use Prim.Native.Nat.{_+_, _≤_, _<_}
-use borrow.Author.Tests.{lt-ltb, le-ltb, le-leb, lt-leb}
+use lib.Dec.{ltb, leb}
+use Rattle.chebyshev.specs.Recurrence.{terms}
+use Rattle.orbit.specs.Window.{startOf}
+use borrow.Author.Tests.{ltb-true, ltb-false, leb-true, leb-false}
 use borrow.Author.Needs.{needs}
 use Rattle.orbit.proofs.window.start_of.Statement.{statement}
 use Rattle.orbit.proofs.window.start_of.Tie as tie
 
+-- the code's form and the definition's are equal, for every idx and every length of at least ten
+same-start : (idx n : ℕ) → 10 ≤ n → min (max idx 4 - 4) (n - 10) ≡ startOf idx n
+same-start idx n h = chosen (ltb idx 4) refl (leb n (idx + 5)) refl
+  where
+    chosen : (early : Bool) → ltb idx 4 ≡ early → (late : Bool) → leb n (idx + 5) ≡ late → min (max idx 4 - 4) (n - 10) ≡ cond early 0 (cond late (n - terms) (idx - 4))
+    chosen true e late l = omega (arith, ltb-true)
+    chosen false e true l = omega (arith, ltb-false, leb-true)
+    chosen false e false l = omega (arith, ltb-false, leb-false)
+
+larger-requires : tie.Need-larger-requires
+larger-requires c κs = search needs
+
+sub-start : tie.Need-sub-start
+sub-start c = search needs
+
+sub-smaller : tie.Need-sub-smaller
+sub-smaller c = search needs
+
+smaller-requires : tie.Need-smaller-requires
+smaller-requires c κs = search needs
+
 returns : tie.Need-returns
-returns c = (omega arith, rw (lt-ltb _ _ (c .if1 .taken)))
-
-sub-if2 : tie.Need-sub-if2
-sub-if2 c = search needs
-
-sub-result : tie.Need-sub-result
-sub-result c = search needs
-
-returns-2 : tie.Need-returns-2
-returns-2 c =
+returns c =
     let a = c .before .before .args in
-    let h : a .n ≤ a .idx + 5 = omega arith in
-    (omega arith, rw (le-ltb _ _ (c .before .if1 .left), le-leb _ _ h))
-
-returns-3 : tie.Need-returns-3
-returns-3 c =
-    let a = c .before .before .args in
-    let h : a .idx + 5 < a .n = omega arith in
-    (omega arith, rw (le-ltb _ _ (c .before .if1 .left), lt-leb _ _ h))
+    (omega arith, c .smaller .ensures ∙ ap (λ (start : ℕ). min start (a .n - 10)) (omega arith) ∙ same-start (a .idx) (a .n) (omega arith))
 
 pub start-of-spec : {M : Type 1} → statement M
-start-of-spec = tie.close (tie.spec returns sub-if2 sub-result returns-2 returns-3)
+start-of-spec = tie.close (tie.spec larger-requires sub-start sub-smaller smaller-requires returns)

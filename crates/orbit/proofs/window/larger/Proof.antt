@@ -1,0 +1,13 @@
+-- The test says which of the two is the larger; where they are equal either is. Assumes nothing.
+use native.Mathlib.Omega.{arith}
+use Rattle.orbit.proofs.window.larger.Statement.{statement}
+use Rattle.orbit.proofs.window.larger.Tie as tie
+
+returns : tie.Need-returns
+returns c = omega arith
+
+returns-2 : tie.Need-returns-2
+returns-2 c = omega arith
+
+pub larger-spec : {M : Type 1} → statement M
+larger-spec = tie.close (tie.spec returns returns-2)
