@@ -5,7 +5,7 @@ use crate::ours::orbit as ours;
 use crate::tally::{Tally, Total};
 use crate::timing::{Row, row, row_of_ours, spacing};
 use chrono::{DateTime, Utc};
-use compare::answers::Answer;
+use compare::answers::{self, Answer};
 use compare::calls::{Call, Entry};
 use compare::checks::COORDINATES;
 use compare::inputs::closest;
@@ -15,10 +15,14 @@ use compare::inputs::random::Random;
 use compare::inputs::tables::{self, PRESENT, SECOND, SPACINGS, Spacing, Table};
 use compare::inputs::{doubles, polynomials};
 use compare::reference::{self, OrbitModel};
+use compare::words::Word;
 use std::hint::black_box;
 
 /// How many tables of each spacing; each is asked for twelve instants.
 const TABLES: usize = 400;
+
+/// How many rows the tables have of which every window is compared: the fewest, the most, and some between.
+const WINDOWED: [usize; 6] = [COORDINATES[0], 11, 14, 15, 20, COORDINATES[1]];
 
 /// How many models that no table made.
 const MODELS: usize = 20_000;
@@ -32,6 +36,7 @@ const TIMED: usize = 64;
 /// Compares the four entries.
 pub fn compare(total: &mut Total) {
     compare_tables(total);
+    compare_windows(total);
     compare_models(total);
     compare_closest(total);
     for (entry, ours) in [
@@ -68,6 +73,54 @@ fn compare_tables(total: &mut Total) {
     models.finish(total);
     propagations.finish(total);
     evaluations.finish(total);
+}
+
+/// Model and propagation at every row of even and uneven tables.
+fn compare_windows(total: &mut Total) {
+    let mut tallies = [Entry::GetChebyshevModel, Entry::PropagateEcef]
+        .map(|entry| Tally::new(format!("{}, the window at every row", entry.name())));
+    let mut random = Random::new(38);
+    for rows in WINDOWED {
+        for uneven in [false, true] {
+            let table = minutes_apart(&mut random, rows, uneven);
+            compare_rows(&mut tallies, &mut random, table);
+        }
+    }
+    for tally in tallies {
+        tally.finish(total);
+    }
+}
+
+/// The same at every row of one table; each model must have the end times of the window that the paper names.
+fn compare_rows([models, propagations]: &mut [Tally; 2], random: &mut Random, table: Table) {
+    let rows = table.instants.len();
+    let mut call = Call {
+        table,
+        ..Call::default()
+    };
+    for row in 0..rows {
+        let ends = paper_ends(&call.table, row);
+        for instant in tables::asked_at(random, &call.table, row) {
+            call.instant = instant;
+            let model = compare_call(models, Entry::GetChebyshevModel, ours::model, &call);
+            assert!(model.results.starts_with(&ends), "row {row} of {rows}");
+            models.note(format!("{rows} rows"));
+            compare_call(propagations, Entry::PropagateEcef, ours::propagation, &call);
+            propagations.note(format!("{rows} rows"));
+        }
+    }
+}
+
+/// The end times of the window about a row: "Start is 0 if idx < 4, length − 10 if idx + 5 ≥ length, else idx − 4".
+fn paper_ends(table: &Table, idx: usize) -> Vec<Word> {
+    let length = table.instants.len();
+    let start = match idx {
+        0..4 => 0,
+        _ if idx + 5 >= length => length - 10,
+        _ => idx - 4,
+    };
+    let seconds = [start, start + 9].map(|k| table.instants[k] as f64 * 1e-9);
+    answers::doubles(&seconds)
 }
 
 /// A table of this spacing with each of the instants asked of it.
@@ -152,8 +205,8 @@ pub fn time() -> Vec<Row> {
     rows
 }
 
-/// A table of so many rows, a minute apart.
-fn timed_table(random: &mut Random, rows: usize, uneven: bool) -> Table {
+/// A table of so many rows, a minute apart, or about a minute where it is uneven.
+fn minutes_apart(random: &mut Random, rows: usize, uneven: bool) -> Table {
     let orbit = Orbit::low(random);
     let gap = 60 * SECOND;
     if uneven {
@@ -173,7 +226,7 @@ fn timed_instants(random: &mut Random, table: &Table) -> Vec<(i64, DateTime<Utc>
 /// The model by a short even table.
 fn time_model() -> Row {
     let mut random = Random::new(33);
-    let table = timed_table(&mut random, 10, false);
+    let table = minutes_apart(&mut random, 10, false);
     let orbit = reference::orbit(&table);
     let instants = timed_instants(&mut random, &table);
     let mut model = [0.0; 32];
@@ -188,7 +241,7 @@ fn time_model() -> Row {
 /// The evaluation of one model.
 fn time_evaluation() -> Row {
     let mut random = Random::new(34);
-    let table = timed_table(&mut random, 10, false);
+    let table = minutes_apart(&mut random, 10, false);
     let instants = timed_instants(&mut random, &table);
     let model = reference::model(&reference::orbit(&table), instants[0].1);
     let model = model.expect("an even table has a model");
@@ -206,7 +259,7 @@ fn time_evaluation() -> Row {
 fn time_propagation(rows: usize, uneven: bool) -> Row {
     let name = format!("propagate_ecef, {rows} rows {}", spacing(uneven));
     let mut random = Random::new(35);
-    let table = timed_table(&mut random, rows, uneven);
+    let table = minutes_apart(&mut random, rows, uneven);
     let orbit = reference::orbit(&table);
     let instants = timed_instants(&mut random, &table);
     let mut motion = [0.0; 6];
@@ -221,7 +274,7 @@ fn time_propagation(rows: usize, uneven: bool) -> Row {
 /// A table whose very last component is wrong: all checks are made, and nothing else.
 fn time_checks(rows: usize) -> Row {
     let name = format!("its checks alone, {rows} rows");
-    let mut table = timed_table(&mut Random::new(36), rows, false);
+    let mut table = minutes_apart(&mut Random::new(36), rows, false);
     *table.positions.last_mut().expect("a table has rows") = f64::NAN;
     let mut motion = [0.0; 6];
     row_of_ours(name, &[PRESENT], |&n| {

@@ -118,6 +118,25 @@ pub fn asked(random: &mut Random, table: &Table) -> [i64; 12] {
     .map(|n| n.clamp(-INSTANT_LIMIT, INSTANT_LIMIT))
 }
 
+/// Instants whose index is this row: its own, any one before the next row, and the last one before the next; behind the last row as far as the table is long.
+/// With the first row go three instants before the table, whose index is 0 too. The table must lie that far within the limits.
+pub fn asked_at(random: &mut Random, table: &Table, row: usize) -> Vec<i64> {
+    let instants = &table.instants;
+    let (first, last) = (instants[0], instants[instants.len() - 1]);
+    let span = last - first;
+    let next = instants.get(row + 1).map_or(last + span, |&next| next);
+    let any = random.count(instants[row], next - 1);
+    let mut asked = vec![instants[row], any, next - 1];
+    if row == 0 {
+        asked.extend([
+            first - span,
+            random.count(first - span, first - 1),
+            first - 1,
+        ]);
+    }
+    asked
+}
+
 /// How many rows: mostly few, now and then as many as there may be.
 fn rows(random: &mut Random) -> usize {
     let [least, greatest] = COORDINATES;
