@@ -3,7 +3,7 @@
 use crate::answers::{Answer, both_areas, doubles, marked_frequencies, marked_instants};
 use crate::calls::{Call, Entry, Part};
 use crate::checks;
-use crate::reference::{self, Samples};
+use crate::reference::{self, Measured, Samples};
 use crate::words::Word;
 
 /// The refusal where the Rust finds no inverse.
@@ -97,15 +97,18 @@ fn slope(call: &Call) -> Answer {
     Answer::answered(vec![Word::Double(slope)])
 }
 
-/// The report of a fit; its count is that of the samples.
+/// The report of a fit; its count is that of the samples, its instant the given one.
 fn fit(call: &Call) -> Answer {
     let orbit = reference::orbit(&call.table);
     let samples = reference::samples(&call.recording);
-    let measured = reference::instant(call.instant);
-    let report = reference::fit(&orbit, &samples, call.observer, call.centre, measured);
+    let given = Measured {
+        instant: reference::instant(call.instant),
+        fallback: false,
+    };
+    let report = reference::fit(&orbit, &samples, call.observer, call.centre, given.instant);
     answer_or(
         NO_CANDIDATE,
-        report.map(|report| report_words(report, samples.len())),
+        report.map(|report| report_words(report, samples.len(), given)),
     )
 }
 
@@ -114,7 +117,7 @@ fn pass(call: &Call) -> Answer {
     let orbit = reference::orbit(&call.table);
     let samples = reference::samples(&call.recording);
     let (means, report) = reference::pass(&orbit, &samples, call.observer, call.centre);
-    let words = report.map(|report| report_words(report, means.len()));
+    let words = report.map(|report| report_words(report, means.len(), reference::measured(&means)));
     answer_or(NO_CANDIDATE, words).beside(areas(call, &means))
 }
 
@@ -128,10 +131,16 @@ fn motion_words((position, velocity): ([f64; 3], [f64; 3])) -> Vec<Word> {
     doubles([position, velocity].as_flattened())
 }
 
-/// Clock offset, frequency offset, RMSE and count.
-fn report_words((clock, frequency, rmse): (f64, f64, f64), count: usize) -> Vec<Word> {
+/// Clock offset, frequency offset, RMSE, count, the instant that they were taken about, and 1 or 0 for the fallback.
+fn report_words(
+    (clock, frequency, rmse): (f64, f64, f64),
+    count: usize,
+    measured: Measured,
+) -> Vec<Word> {
     let mut words = doubles(&[clock, frequency, rmse]);
     words.push(Word::Whole(count as i64));
+    words.push(Word::Whole(reference::nanoseconds(measured.instant)));
+    words.push(Word::Whole(i64::from(measured.fallback)));
     words
 }
 

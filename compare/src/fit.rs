@@ -3,11 +3,12 @@
 use crate::driver::{
     Ours, compare as compare_call, compare_lengths, compare_paper, compare_refusals,
 };
-use crate::ours::fit as ours;
+use crate::ours::fit::{self as ours, Places};
 use crate::tally::{Tally, Total};
 use crate::timing::{Row, row, spacing};
 use compare::calls::{Call, Entry};
 use compare::checks::SAMPLES;
+use compare::inputs::approaches;
 use compare::inputs::passes::{self, Size};
 use compare::inputs::random::Random;
 use compare::reference;
@@ -22,6 +23,10 @@ const KNOWN: usize = 40;
 /// The numbers of samples of the long calls, and how many of each.
 const LONG: [usize; 2] = [SAMPLES - 1, SAMPLES];
 const LONG_CALLS: usize = 12;
+
+/// How many passes of each kind of measured approach, and how many of them at the least must be reported.
+const APPROACHES: usize = 150;
+const REPORTED: usize = 100;
 
 /// How near a clock offset must be found: the search's last step, in seconds.
 const LAST_STEP: f64 = 0.00001;
@@ -38,6 +43,7 @@ pub fn compare(total: &mut Total) {
         compare_lengths(total, entry, ours, SAMPLES + 1);
         compare_refusals(total, entry, ours);
     }
+    compare_approaches(total);
 }
 
 /// Every kind of call, those whose clock offset is known, and long ones.
@@ -64,6 +70,49 @@ fn compare_calls(total: &mut Total, entry: Entry, ours: Ours, seed: u64) {
         }
     }
     tally.finish(total);
+}
+
+/// The instant that a pass is taken about, and whether it is the fallback, by the kinds of what the means' slopes can be.
+fn compare_approaches(total: &mut Total) {
+    let mut tally = Tally::new("pass, the measured approach");
+    let mut random = Random::new(63);
+    for kind in approaches::KINDS {
+        let mut reported = 0;
+        for _ in 0..APPROACHES {
+            let size = Size {
+                rows: 40,
+                samples: 12 + random.below(24),
+            };
+            let call = (kind.draw)(&mut random, size);
+            let expected = compare_call(&mut tally, Entry::Pass, ours::pass, &call);
+            if let Some(fallback) = expected.results.last() {
+                assert!(fallback.bits() == u64::from(kind.fallback), "{}", kind.name);
+                note_slopes(&mut tally, &call, kind.fallback);
+                reported += 1;
+            }
+        }
+        assert!(reported >= REPORTED, "{}: {reported} reported", kind.name);
+    }
+    tally.finish(total);
+}
+
+/// Counts what the slopes of a reported pass are.
+fn note_slopes(tally: &mut Tally, call: &Call, fallback: bool) {
+    let slopes = approaches::slopes(call);
+    let found = [
+        ("the fallback", fallback),
+        ("the fallback without a slope", slopes.is_empty()),
+        (
+            "level throughout",
+            !slopes.is_empty() && slopes.iter().all(|&s| s == 0.0),
+        ),
+        ("with a slope of -inf", slopes.contains(&f64::NEG_INFINITY)),
+        ("with a slope of inf", slopes.contains(&f64::INFINITY)),
+        ("with a slope of NaN", slopes.iter().any(|s| s.is_nan())),
+    ];
+    for (what, _) in found.into_iter().filter(|(_, holds)| *holds) {
+        tally.note(format!("reported, {what}"));
+    }
 }
 
 /// How many samples: mostly few, up to three less than there may be, since some kinds add three.
@@ -135,11 +184,11 @@ fn time_fit(samples: usize, uneven: bool) -> Row {
     let orbit = reference::orbit(&call.table);
     let samples = reference::samples(&call.recording);
     let measured = reference::instant(call.instant);
-    let (mut report, mut count) = ([0.0; 3], 0);
+    let mut places = Places::marked();
     row(
         name,
         &[()],
-        |()| ours::write_fit(&call, black_box(&mut report), &mut count),
+        |()| ours::write_fit(&call, black_box(&mut places)),
         |()| reference::fit(&orbit, &samples, call.observer, call.centre, measured),
     )
 }
@@ -151,13 +200,13 @@ fn time_pass() -> Row {
     let samples = reference::samples(&call.recording);
     let mut instants = [0; SAMPLES];
     let mut frequencies = [0.0; SAMPLES];
-    let (mut report, mut count) = ([0.0; 3], 0);
+    let mut places = Places::marked();
     row(
         "pass, 600 even",
         &[()],
         |()| {
             let areas = black_box((&mut instants, &mut frequencies));
-            ours::write_pass(&call, areas.0, areas.1, &mut report, &mut count)
+            ours::write_pass(&call, areas.0, areas.1, &mut places)
         },
         |()| reference::pass(&orbit, &samples, call.observer, call.centre),
     )

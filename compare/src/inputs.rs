@@ -1,5 +1,6 @@
 //! The inputs that both sides are given: a random stream, and for each kind of argument its edges.
 
+pub mod approaches;
 pub mod closest;
 pub mod doubles;
 pub mod faults;

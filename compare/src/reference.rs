@@ -207,10 +207,19 @@ pub fn fit(
     fit_satellite(orbit, samples, observer, centre, measured)
 }
 
-/// The measured approach of a pass, or else its middle mean.
-pub fn measured(means: &Samples) -> DateTime<Utc> {
-    let middle = means[means.len() / 2].0;
-    estimate_measured_pca_time(means).unwrap_or(middle)
+/// The instant that a fit is taken about, and whether it is the fallback.
+pub struct Measured {
+    pub instant: DateTime<Utc>,
+    pub fallback: bool,
+}
+
+/// The measured approach of a pass, or else, as the fallback, its middle mean.
+pub fn measured(means: &Samples) -> Measured {
+    let found = estimate_measured_pca_time(means);
+    Measured {
+        instant: found.unwrap_or(means[means.len() / 2].0),
+        fallback: found.is_none(),
+    }
 }
 
 /// The means, then the fit on them about the measured approach.
@@ -222,7 +231,7 @@ pub fn pass(
     centre: f64,
 ) -> (Vec<(DateTime<Utc>, f64)>, Option<Report>) {
     let means = downsample_data(samples);
-    let report = fit_satellite(orbit, &means, observer, centre, measured(&means));
+    let report = fit_satellite(orbit, &means, observer, centre, measured(&means).instant);
     (means, report)
 }
 

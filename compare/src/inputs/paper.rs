@@ -132,9 +132,11 @@ fn double(answer: &Answer, k: usize) -> f64 {
     bits.map_or(f64::NAN, f64::from_bits)
 }
 
-/// The count, which is the last result of the means, the fit and the pass.
+/// The count, which is the first whole number that the means, the fit and the pass answer.
 fn count(answer: &Answer) -> Option<u64> {
-    answer.results.last().map(|word| word.bits())
+    let mut wholes = answer.results.iter();
+    let count = wholes.find(|word| matches!(word, Word::Whole(_)));
+    count.map(|word| word.bits())
 }
 
 /// Chebyshev: a model of two seconds has tau change by one in a second; T2, T3 and T9 are its axes.
@@ -298,15 +300,18 @@ fn slopes(entry: Entry) -> Vec<Line> {
             Line::gives(none, close, doubles(&[0.0])),
         ],
         Entry::Pass => vec![
-            Line::new(falling, apart, |call, answer| {
-                is_answered(answer) && measured(Entry::Pass, call) == SECOND
-            }),
-            Line::new(none, close, |call, answer| {
-                is_answered(answer) && measured(Entry::Pass, call) == 450_000
-            }),
+            Line::new(falling, apart, |_, answer| taken_about(answer, SECOND, 0)),
+            Line::new(none, close, |_, answer| taken_about(answer, 450_000, 1)),
         ],
         _ => Vec::new(),
     }
+}
+
+/// Whether a report was taken about this instant, and says 1 or 0 for the fallback.
+fn taken_about(answer: &Answer, instant: i64, fallback: i64) -> bool {
+    answer
+        .results
+        .ends_with(&[instant, fallback].map(Word::Whole))
 }
 
 /// Slant.
@@ -383,7 +388,7 @@ fn measured(entry: Entry, call: &Call) -> i64 {
         return call.instant;
     }
     let means = reference::means(&reference::samples(&call.recording));
-    reference::nanoseconds(reference::measured(&means))
+    reference::nanoseconds(reference::measured(&means).instant)
 }
 
 /// The centre of the candidates of a fit about this measured approach, in seconds, by the Rust's own closest approach.

@@ -25,6 +25,8 @@ unsafe extern "C" {
         measured: Nanoseconds,
         report: &mut [f64; 3],
         count: &mut u64,
+        approach: &mut i64,
+        fallback: &mut u8,
     ) -> u8;
     fn orbit_pass(
         instants: *const i64,
@@ -45,11 +47,49 @@ unsafe extern "C" {
         mean_frequencies_length: usize,
         report: &mut [f64; 3],
         count: &mut u64,
+        approach: &mut i64,
+        fallback: &mut u8,
     ) -> u8;
 }
 
-/// The refusal's number, 0 if there is none; then report and count of a fit are written.
-pub fn write_fit(call: &Call, report: &mut [f64; 3], count: &mut u64) -> u8 {
+/// The places lent for a report: its three numbers, its count, its instant, and the yes or no, which is the first byte of eight.
+pub struct Places {
+    report: [f64; 3],
+    count: u64,
+    approach: i64,
+    fallback: [u8; 8],
+}
+
+impl Places {
+    /// All hold the marker.
+    pub fn marked() -> Self {
+        Places {
+            report: [marked_double(); 3],
+            count: marked_whole() as u64,
+            approach: marked_whole(),
+            fallback: marked_whole().to_le_bytes(),
+        }
+    }
+
+    /// Clock offset, frequency offset, RMSE, count, instant, and 1 or 0 for the fallback; the seven bytes behind it must be as they were.
+    fn words(&self) -> Vec<Word> {
+        let [fallback, behind @ ..] = self.fallback;
+        let marked = marked_whole().to_le_bytes();
+        let written = fallback != marked[0] && behind == marked[1..];
+        let fallback = if written {
+            i64::from(fallback)
+        } else {
+            i64::from_le_bytes(self.fallback)
+        };
+        let mut words = doubles(&self.report);
+        let whole = [self.count as i64, self.approach, fallback];
+        words.extend(whole.map(Word::Whole));
+        words
+    }
+}
+
+/// The refusal's number, 0 if there is none; then the report of a fit is written.
+pub fn write_fit(call: &Call, places: &mut Places) -> u8 {
     let (table, recording) = (&call.table, &call.recording);
     let [x, y, z] = call.observer.map(Metres);
     // SAFETY: each pointer is to as many numbers as its length says.
@@ -68,19 +108,20 @@ pub fn write_fit(call: &Call, report: &mut [f64; 3], count: &mut u64) -> u8 {
             z,
             Hertz(call.centre),
             Nanoseconds(call.instant),
-            report,
-            count,
+            &mut places.report,
+            &mut places.count,
+            &mut places.approach,
+            &mut places.fallback[0],
         )
     }
 }
 
-/// The refusal's number, 0 if there is none; then report and count of a pass are written, and the means at 10 too.
+/// The refusal's number, 0 if there is none; then the report of a pass is written, and the means at 10 too.
 pub fn write_pass(
     call: &Call,
     mean_instants: &mut [i64],
     mean_frequencies: &mut [f64],
-    report: &mut [f64; 3],
-    count: &mut u64,
+    places: &mut Places,
 ) -> u8 {
     let (table, recording) = (&call.table, &call.recording);
     let [x, y, z] = call.observer.map(Metres);
@@ -103,33 +144,26 @@ pub fn write_pass(
             mean_instants.len(),
             mean_frequencies.as_mut_ptr(),
             mean_frequencies.len(),
-            report,
-            count,
+            &mut places.report,
+            &mut places.count,
+            &mut places.approach,
+            &mut places.fallback[0],
         )
     }
 }
 
 /// The answer of `fit_satellite`.
 pub fn fit(call: &Call) -> Answer {
-    let mut report = [marked_double(); 3];
-    let mut count = marked_whole() as u64;
-    let refusal = write_fit(call, &mut report, &mut count);
-    answer(refusal, report_words(&report, count))
+    let mut places = Places::marked();
+    let refusal = write_fit(call, &mut places);
+    answer(refusal, places.words())
 }
 
 /// The answer of the pass.
 pub fn pass(call: &Call) -> Answer {
-    let mut report = [marked_double(); 3];
-    let mut count = marked_whole() as u64;
+    let mut places = Places::marked();
     let mut areas = Areas::new(call.areas);
     let (instants, frequencies) = areas.lent();
-    let refusal = write_pass(call, instants, frequencies, &mut report, &mut count);
-    answer(refusal, report_words(&report, count)).beside(areas.words())
-}
-
-/// Clock offset, frequency offset, RMSE and count.
-fn report_words(report: &[f64; 3], count: u64) -> Vec<Word> {
-    let mut words = doubles(report);
-    words.push(Word::Whole(count as i64));
-    words
+    let refusal = write_pass(call, instants, frequencies, &mut places);
+    answer(refusal, places.words()).beside(areas.words())
 }

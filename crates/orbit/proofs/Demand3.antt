@@ -24,10 +24,11 @@ use Rattle.orbit.specs.declared.fit.Report.{Report}
 use Rattle.orbit.proofs.Models.{inversion-eight}
 use Rattle.orbit.specs.Window.{windowSeconds, windowStart, inversionOf, modelOr}
 use Rattle.orbit.specs.Propagation.{Motion, motionAt}
-use Rattle.orbit.specs.Fit.{trial, usable, coarse, shifts, basisOf, reportOfTrial, fitOf, noneUsableRefusal}
+use Rattle.orbit.specs.Fit.{trial, usable, coarse, shifts, reportOfTrial, fitOf, noneUsableRefusal}
 use Rattle.orbit.specs.Residuals.{Inputs, propagatedBy, moved, residualIn, residualOf, keep, residuals}
 use Rattle.orbit.specs.Passes.{approachOr, middleOf, measuredOf, passOutcome, passRefusal, pass}
-use Rattle.orbit.specs.Demand3.{NoCoarse, tried, measuredFor, centreFor, shiftsFor, triedAt, CentreIs, positioned, propagates, howMany, rmseFor, Usable, ShiftsAre, Fields, Choice, Demand3, Call, TwoCalls}
+use Rattle.orbit.specs.Demand3.{NoCoarse, tried, measuredFor, basisFor, centreFor, shiftsFor, triedAt, CentreIs, positioned, propagates, howMany, rmseFor, Usable, ShiftsAre, Fields, Choice, Demand3, Call, TwoCalls}
+use Rattle.orbit.proofs.Middles.{fallback-where}
 use Rattle.orbit.proofs.FirstRange.{first-minute, first-second}
 use Rattle.orbit.proofs.FirstLeast.{at-least-the-winner's, refused-exactly, Chosen, exactly-one}
 use Rattle.orbit.proofs.ListOfShifts.{coarse-steps, fine-steps, micro-steps, coarse-length, coarse-alone, listing, listing-length}
@@ -104,7 +105,7 @@ shifts-are i S = record {
 
 module _ (i : Inputs) (S : List Sample) where
   -- the winner of the list of the shifts is the place that demand 3 asks for, and the other way round
-  choice-of : (k : ℕ) → Chosen (tried i S) (basisOf (means S)) (centreFor i S) k → Choice i S k
+  choice-of : (k : ℕ) → Chosen (tried i S) (basisFor S) (centreFor i S) k → Choice i S k
   choice-of k c = record {
     inside = c .wins .inside;
     can-be-used = c .wins .can-be-used;
@@ -113,7 +114,7 @@ module _ (i : Inputs) (S : List Sample) where
     first = c .wins .first;
   }
 
-  chosen-of : (k : ℕ) → Choice i S k → Chosen (tried i S) (basisOf (means S)) (centreFor i S) k
+  chosen-of : (k : ℕ) → Choice i S k → Chosen (tried i S) (basisFor S) (centreFor i S) k
   chosen-of k c = record {
     wins = record {
       inside = c .inside;
@@ -126,16 +127,23 @@ module _ (i : Inputs) (S : List Sample) where
 
   -- so there is exactly one
   one-choice : passOutcome i S ≢ refused noneUsableRefusal → (k : ℕ) × Choice i S k × ((j : ℕ) → Choice i S j → j ≡ k)
-  one-choice ne = let r = exactly-one (tried i S) (basisOf (means S)) (centreFor i S) ne in (r .0, choice-of (r .0) (r .1), λ j c. r .2 j (chosen-of j c))
+  one-choice ne = let r = exactly-one (tried i S) (basisFor S) (centreFor i S) ne in (r .0, choice-of (r .0) (r .1), λ j c. r .2 j (chosen-of j c))
 
   -- the fields of the report of a shift
-  fields-of : (x : Float) → Fields i S x (reportOfTrial (basisOf (means S)) (tried i S x))
+  fields-of : (x : Float) → Fields i S x (reportOfTrial (basisFor S) (tried i S x))
   unfolding trial
-  fields-of x = record { clock-offset = refl; frequency-offset = refl; rmse-is = refl; count-is = refl }
+  fields-of x = record {
+    clock-offset = refl;
+    frequency-offset = refl;
+    rmse-is = refl;
+    count-is = refl;
+    approach-is = refl;
+    fallback-exactly = fallback-where (instants (means S)) (frequencies (means S));
+  }
 
   fields-are : (k : ℕ) → Choice i S k → (r : Report) → passOutcome i S ≡ answered r → Fields i S (getD (shiftsFor i S) k nan) r
   fields-are k c r e =
-      let same : reportOfTrial (basisOf (means S)) (triedAt i S k) ≡ r = cc (c .reported) in
+      let same : reportOfTrial (basisFor S) (triedAt i S k) ≡ r = cc (c .reported) in
       subst (Fields i S (getD (shiftsFor i S) k nan)) same (fields-of (getD (shiftsFor i S) k nan))
 
 -- demand 3
@@ -148,10 +156,10 @@ demand-3 i S = record {
   centre = centre-is i S;
   usable = usable-is i S;
   shifts = shifts-are i S;
-  refusal = refused-exactly (tried i S) (basisOf (means S)) (centreFor i S);
+  refusal = refused-exactly (tried i S) (basisFor S) (centreFor i S);
   choice = one-choice i S;
   reports = fields-are i S;
-  alone = λ S′ a. (same-means S S′ a, ap (λ (M : List Sample). fitOf i M (measuredOf M .instant .0)) (same-means S S′ a));
+  alone = λ S′ a. (same-means S S′ a, ap (λ (M : List Sample). fitOf i M (measuredOf M)) (same-means S S′ a));
 }
 
 -- ---- what the calls of the pass entry give

@@ -8,10 +8,11 @@ mod Collected
 mod Shifts
 mod Trials
 mod Updates
+mod Middles
 pub mod FirstLeast
 pub mod ListOfShifts
 pub mod Demand3
 pub mod MixedSeconds
+pub mod GivenInstant
 mod Finish
 mod Centre
-mod Middles

@@ -1,16 +1,19 @@
--- The measured approach of samples, or else their middle, is one of their instants; the means of a recording are samples that pass their checks. Assumes nothing.
+-- The measured approach of samples, or else their middle, is one of their instants, and the fallback exactly where the frequency falls about none of them; the means of a recording are samples that pass their checks. Assumes nothing.
 use mathlib.Core.Path.{_≡_, refl, sym, ap, ap₂, _∙_, subst}
+use mathlib.Core.Logic.{_↔_}
 use mathlib.Core.Bool.{Bool, true, false, cond}
 use mathlib.Core.List.{List, [], _∷_}
-use Prim.Native.Nat.{ℕ, _/_, _≤_}
+use Prim.Native.Nat.{ℕ, _≤_}
 use native.Mathlib.Omega.{arith}
+use lib.Dec.{T}
 use lib.IntN.{ℤ, pos, natAbs}
 use lib.ListN.{length, getD, take, drop, length-map}
 use lib.Seq.{take-append-seam}
 use lib.Ieee.{Float, lt}
 use Rattle.common.specs.Outcome.{Outcome, refused, answered, written}
 use Rattle.samples.specs.Means.{Sample, recording, means, instants, frequencies}
-use Rattle.samples.specs.Approach.{noFloor, leastSlope, noFallRefusal}
+use Rattle.samples.specs.Approach.{noFloor, leastSlope, approachOf, Falls, noFallRefusal}
+use Rattle.samples.proofs.FirstSlope.{nine-exactly, first-approach}
 use Rattle.samples.proofs.Seconds.{some-means, few-means}
 use Rattle.samples.proofs.OwnSeconds.{limited-means}
 use Rattle.samples.specs.Runs.{Limited}
@@ -20,12 +23,25 @@ use Rattle.common.specs.Numbers.{nought}
 use Rattle.orbit.specs.Passes.{approachOr, middleOf, measuredBy}
 use Rattle.checks.specs.Limits.{farthestInstant}
 
+-- a refusal is no answer
+pub not-refused : {A : Type 0} (n : ℕ) (a : A) → _≡_ {A = Outcome A} (refused n) (answered a) → ⊥
+not-refused n a e = let z : _≡_ {A = ℕ} 0 1 = cc e in omega arith
+
+-- it is one of them, so no farther
 pub measured-near : (ts : List ℤ) (fs : List Float) → ((k : ℕ) → natAbs (getD ts k (pos 0)) ≤ farthestInstant) → natAbs (measuredBy ts fs .instant .0) ≤ farthestInstant
 measured-near ts fs h = go (lt (leastSlope noFloor ts fs .slope) nought)
   where
     go : (b : Bool) → natAbs (approachOr (middleOf ts) (cond b (answered (getD ts (leastSlope noFloor ts fs .middle) (pos 0))) (refused noFallRefusal)) .instant .0) ≤ farthestInstant
-    go true = h (leastSlope noFloor ts fs .middle)
-    go false = h (length ts / 2)
+    go true = h _
+    go false = h _
+
+-- an approach is found exactly where the frequency falls about a sample, so the fallback is taken exactly where it falls about none
+pub fallback-where : (ts : List ℤ) (fs : List Float) → T (measuredBy ts fs .fallback) ↔ ((j : ℕ) → Falls ts fs j → ⊥)
+fallback-where ts fs = go (approachOf ts fs) refl
+  where
+    go : (o : Outcome ℤ) → approachOf ts fs ≡ o → T (approachOr (middleOf ts) o .fallback) ↔ ((j : ℕ) → Falls ts fs j → ⊥)
+    go (refused n) e = (λ u j f. let r = first-approach ts fs (λ nine. nine-exactly ts fs .0 nine j f) in not-refused n (getD ts (r .0) (pos 0)) (sym e ∙ r .2), λ none. tt)
+    go (answered t) e = (λ u. absurd u, λ none. absurd (not-refused noFallRefusal t (sym (nine-exactly ts fs .1 none) ∙ e)))
 
 -- a list of samples by its two parts
 pub by-parts : (M : List Sample) → recording (instants M) (frequencies M) ≡ M
@@ -60,6 +76,3 @@ counted (answered n) = n
 
 pub same-count : (n m : ℕ) → answered n ≡ answered m → n ≡ m
 same-count n m e = ap counted e
-
-pub not-refused : (n m : ℕ) → _≡_ {A = Outcome ℕ} (refused n) (answered m) → ⊥
-not-refused n m e = let z : _≡_ {A = ℕ} 0 1 = cc e in omega arith

@@ -1,8 +1,8 @@
 -- A worked pair for `two-calls`: the samples of seconds 0 and −1 mixed, with second 0 not even in the order of time, and the same samples second by second. Both calls pass checks 1 to 7, into
--- areas of other lengths and contents; the recordings are alike and differ; the means are worked out. By computing. Assumes nothing.
+-- areas of other lengths and contents; the recordings are alike and differ; the means are worked out, and what an offset is taken about. By computing. Assumes nothing.
 use mathlib.Core.Path.{_≡_, refl, _∙_, ap}
 use mathlib.Core.Logic.{_≢_}
-use mathlib.Core.Bool.{false}
+use mathlib.Core.Bool.{true, false}
 use mathlib.Core.List.{List, [], _∷_, _++_}
 use Prim.Native.Nat.{ℕ}
 use lib.IntN.{ℤ, pos, negsuc, pos-ne-negsuc}
@@ -12,11 +12,13 @@ use Rattle.float.specs.Signs.{magnitudeOf}
 use Rattle.checks.specs.Checks.{any, unrising, anyMisplaced, notFinite}
 use Rattle.checks.specs.Entries.{firstFailing}
 use Rattle.common.specs.Sums.{sumFrom}
+use Rattle.common.specs.Lists.{listOf}
+use Rattle.common.specs.Search.{firstBest}
 use Rattle.samples.specs.Means.{Sample, recording, bin, insert, seconds, offsetSum, meanInstant, meanFrequency, meanOf, means, instants, Alike}
 use Rattle.common.specs.Numbers.{nought}
 use Rattle.orbit.specs.Window.{evenTolerance}
 use Rattle.orbit.specs.Residuals.{Inputs}
-use Rattle.orbit.specs.Passes.{passRefusal, passInstants}
+use Rattle.orbit.specs.Passes.{measuredOf, passRefusal, passInstants}
 use Rattle.orbit.specs.Demand3.{TwoCalls}
 use Rattle.orbit.proofs.Demand3.{two-calls}
 
@@ -58,6 +60,11 @@ differ e = pos-ne-negsuc 700000000 0 (ap (λ (S : List Sample). getD (instants S
 pub mixed-means : means mixed ≡ record { instant = negsuc 249999000; frequency = hertz 9 } ∷ record { instant = pos 300000000; frequency = hertz 7 } ∷ []
 unfolding recording means seconds insert bin meanOf meanInstant meanFrequency offsetSum sumFrom add div ofInt
 mixed-means = refl
+
+-- two means have no slope, so an offset is taken about the second of them, at index 2/2, as the fallback
+pub mixed-measured : measuredOf (means mixed) ≡ record { instant = record { 0 = pos 300000000 }; fallback = true }
+unfolding listOf firstBest lt
+mixed-measured = ap measuredOf mixed-means
 
 -- ---- the other inputs: ten coordinates a minute apart, at 7,000 km on each axis, and an observer at 6,400 km on one
 

@@ -25,7 +25,7 @@ use Rattle.orbit.specs.declared.closest.Offsets.{Offsets}
 use Rattle.orbit.specs.Propagation.{Motion}
 use Rattle.orbit.specs.Closest.{movedBySeconds, nearer, centred, minutes, secondsAbout, rangedAt, byMinutes, bySeconds}
 use Rattle.orbit.specs.Fit.{Trial, trial, usable, shiftsOf, coarseStage, fineStage, microStage, coarse, coarseFine, shifts, noneUsableRefusal}
-use Rattle.orbit.specs.Fit.{basisOf, reportOfTrial, predictedBy, centreOf}
+use Rattle.orbit.specs.Fit.{Basis, basisOf, reportOfTrial, predictedBy, centreOf}
 use Rattle.orbit.specs.Residuals.{Inputs, propagatedBy, moved, residualOf, residuals, meanOver, squaredDeviation}
 use Rattle.orbit.specs.Passes.{middleOf, measuredOf, passOutcome, pass, passInstants, passFrequencies}
 
@@ -87,6 +87,10 @@ tried i S = trial (residualOf i) (means S)
 abbrev pub measuredFor : List Sample → ℤ
 measuredFor S = measuredOf (means S) .instant .0
 
+-- what the report says whichever shift wins
+abbrev pub basisFor : List Sample → Basis
+basisFor S = basisOf (means S) (measuredOf (means S))
+
 -- the first centre
 abbrev pub centreFor : Inputs → List Sample → Float
 centreFor i S = centreOf i (measuredFor S)
@@ -108,6 +112,10 @@ NoCoarseFor i S = NoCoarse (tried i S) (centreFor i S)
 -- about mean j the frequency falls: the seconds about it are above zero, and the slope is below zero
 abbrev pub FallsAt : List Sample → ℕ → Type 0
 FallsAt S j = Falls (instants (means S)) (frequencies (means S)) j
+
+-- no slope below zero was found: the frequency falls about no mean
+abbrev pub NoFall : List Sample → Type 0
+NoFall S = (j : ℕ) → FallsAt S j → ⊥
 
 -- "the first least below zero" is about mean k
 abbrev pub FirstFallAt : List Sample → ℕ → Type 0
@@ -136,7 +144,7 @@ pub record CentreIs (i : Inputs) (S : List Sample) : Type 0 where
   pub difference : centreFor i S ≡ gapOf (predictedFor i S) (measuredFor S)
   pub first-fall : (j : ℕ) → FallsAt S j
       → (k : ℕ) × FirstFallAt S k × (measuredFor S ≡ getD (instants (means S)) k (pos 0)) × ((l : ℕ) → FirstFallAt S l → l ≡ k)
-  pub else-middle : ((j : ℕ) → FallsAt S j → ⊥) → measuredFor S ≡ middleOf (instants (means S))
+  pub else-middle : NoFall S → measuredFor S ≡ middleOf (instants (means S))
   pub by-minutes : Searched nearer (centred (pos 0)) (rangesFor i S minutes) 0 (minutes .count) (minutesFor i S)
   pub by-seconds : let centre = minutesFor i S .offset in let f = secondsAbout centre in
       Searched nearer (centred centre) (rangesFor i S f) 0 (f .count) (secondsFor i S)
@@ -192,19 +200,22 @@ pub record ShiftsAre (i : Inputs) (S : List Sample) : Type 0 where
 -- ---- the report
 
 -- "A report's clock offset is its shift in seconds, its frequency offset and RMSE are those of that shift over the means": the mean residual, and
--- the root of the mean squared rest
+-- the root of the mean squared rest. The instant that the offset was taken about is the measured one, whose mean `CentreIs` tells; it is the fallback
+-- exactly where the means have no slope below zero
 pub record Fields (i : Inputs) (S : List Sample) (x : Float) (r : Report) : Type 0 where
   pub clock-offset : r .«clock_offset» .0 ≡ x
   pub frequency-offset : r .«frequency_offset» .0 ≡ offsetFor i S x
   pub rmse-is : r .rmse .0 ≡ rmseFor i S x
   pub count-is : r .count ≡ length (means S)
+  pub approach-is : r .approach .0 ≡ measuredFor S
+  pub fallback-exactly : T (r .fallback) ↔ NoFall S
 
 -- the place k of the list: it is usable, the report is that of its shift, every other usable place has at least its RMSE and every earlier usable
 -- place a larger one
 pub record Choice (i : Inputs) (S : List Sample) (k : ℕ) : Type 0 where
   pub inside : k < length (shiftsFor i S)
   pub can-be-used : T (usable (triedAt i S k))
-  pub reported : passOutcome i S ≡ answered (reportOfTrial (basisOf (means S)) (triedAt i S k))
+  pub reported : passOutcome i S ≡ answered (reportOfTrial (basisFor S) (triedAt i S k))
   pub least : (j : ℕ) → j < length (shiftsFor i S) → j ≢ k → T (usable (triedAt i S j)) → T (le (triedAt i S k .rmse) (triedAt i S j .rmse))
   pub first : (j : ℕ) → j < k → T (usable (triedAt i S j)) → T (lt (triedAt i S k .rmse) (triedAt i S j .rmse))
 

@@ -18,6 +18,7 @@ use Rattle.checks.specs.Entries.{firstFailing, fitChecks}
 use Rattle.samples.specs.Means.{Sample, recording}
 use Rattle.samples.specs.Approach.{gapOf}
 use Rattle.orbit.specs.declared.stages.Stage.{Stage}
+use Rattle.orbit.specs.declared.fit.Measured.{Measured}
 use Rattle.orbit.specs.declared.fit.Report.{Report}
 use Rattle.orbit.specs.declared.fit.FitAnswer.{FitAnswer}
 use Rattle.orbit.specs.declared.fit.FitAnswer.the-variants.{Reported, Refused}
@@ -114,21 +115,26 @@ module _ (try : Float → Trial) (centre : Float) where
 
 -- ---- the outcome
 
--- what a report says whichever shift wins: how many samples were fitted
+-- what a report says whichever shift wins: how many samples were fitted, and the instant that the offset was taken about with whether it was the
+-- fallback
 pub record Basis : Type 0 where
   pub count : ℕ
+  pub measured : Measured
 
--- that of a fit of samples
-abbrev pub basisOf : List Sample → Basis
-basisOf S = record { count = length S }
+-- that of a fit of samples about a measured instant
+abbrev pub basisOf : List Sample → Measured → Basis
+basisOf S measured = record { count = length S; measured = measured }
 
--- "the three doubles and the count": a report is made here alone
+-- "the three doubles and the count"; request 2.4: "The report carries that instant, the fallback to the middle mean included, and a yes or no
+-- whether it was the fallback". A report is made here alone
 abbrev pub reportOf : Basis → Float → Float → Float → Report
 reportOf basis shift frequencyOffset rmse = record {
   «clock_offset» = record { 0 = shift };
   «frequency_offset» = record { 0 = frequencyOffset };
   rmse = record { 0 = rmse };
   count = basis .count;
+  approach = basis .measured .instant;
+  fallback = basis .measured .fallback;
 }
 
 -- the report of a trial
@@ -157,16 +163,20 @@ abbrev pub centreOf : Inputs → ℤ → Float
 centreOf i measured = gapOf (predictedBy i measured) measured
 
 -- the fit of samples about a measured instant
-abbrev pub fitOf : Inputs → List Sample → ℤ → Outcome Report
-fitOf i S measured = fitByTrials (trial (residualOf i) S) (basisOf S) (centreOf i measured)
+abbrev pub fitOf : Inputs → List Sample → Measured → Outcome Report
+fitOf i S measured = fitByTrials (trial (residualOf i) S) (basisOf S measured) (centreOf i (measured .instant .0))
 
 -- ---- the entry: checks 1, 2, 4, 5, 6, 7, then 10
+
+-- request 2.4: "always no at the fit entry, which is given its instant"
+abbrev pub given : ℤ → Measured
+given t = record { instant = record { 0 = t }; fallback = false }
 
 -- the refusal, or the fit
 abbrev pub fitSatellite : Inputs → List ℤ → List Float → ℤ → Outcome Report
 fitSatellite i ts fs measured =
     unlessRefused (firstFailing (fitChecks (i .instants) (i .positions) ts fs (i .settings .observer) (i .settings .f0) measured))
-    (fitOf i (recording ts fs) measured)
+    (fitOf i (recording ts fs) (given measured))
 
 -- the paper's number and values of each case of the answer
 abbrev pub fitIn : FitAnswer → Outcome Report

@@ -9,7 +9,7 @@ use Rattle.common.specs.Outcome.{Outcome, refused, answered, unlessRefused, are
 use Rattle.checks.specs.Entries.{firstFailing, passChecks}
 use Rattle.samples.specs.Means.{Sample, recording, means, instants, frequencies}
 use Rattle.samples.specs.Approach.{approachOf}
-use Rattle.orbit.specs.declared.passes.Measured.{Measured}
+use Rattle.orbit.specs.declared.fit.Measured.{Measured}
 use Rattle.orbit.specs.declared.fit.Report.{Report}
 use Rattle.orbit.specs.Fit.{fitOf}
 use Rattle.orbit.specs.Residuals.{Inputs}
@@ -33,7 +33,7 @@ measuredOf M = measuredBy (instants M) (frequencies M)
 
 -- the fit on the means
 abbrev pub passOutcome : Inputs → List Sample → Outcome Report
-passOutcome i S = let M = means S in fitOf i M (measuredOf M .instant .0)
+passOutcome i S = let M = means S in fitOf i M (measuredOf M)
 
 -- ---- the entry: checks 1 to 7, then 10
 

@@ -26,18 +26,27 @@ use units::Observer;
 use units::SECOND_MILLISECONDS;
 use units::Seconds;
 
-// Clock offset, frequency offset, RMSE of the residuals, and how many samples or means were fitted.
+// Clock offset, frequency offset, RMSE of the residuals, how many samples or means were fitted, the instant that the offset was taken about, and
+// whether that is the fallback: the middle mean's, since no slope of the means is below zero. A fit that is given its instant reports that, and no.
 pub struct Report {
     pub clock_offset: Seconds,
     pub frequency_offset: Hertz,
     pub rmse: Hertz,
     pub count: usize,
+    pub approach: Nanoseconds,
+    pub fallback: bool,
 }
 
 // The report, or the refusal (1 to 7, 10).
 pub enum FitAnswer {
     Reported(Report),
     Refused(u8),
+}
+
+// The instant that a fit is taken about, and whether it is the fallback.
+pub(crate) struct Measured {
+    pub(crate) instant: Nanoseconds,
+    pub(crate) fallback: bool,
 }
 
 // The centre of the search: measured minus predicted, in whole milliseconds over 1000.
@@ -48,29 +57,31 @@ fn centre_between(predicted: Nanoseconds, measured: Nanoseconds) -> Seconds
     Seconds(nearest((measured.0 - predicted.0) / MILLISECOND) / SECOND_MILLISECONDS)
 }
 
-// The fit of samples that passed their checks about a measured instant; 10 where no coarse shift is usable.
+// The fit of samples that passed their checks about a measured instant; 10 where no coarse shift is usable. The report is made here alone.
 pub(crate) fn fit_about(
     instants: &[i64],
     positions: &[f64],
     samples: &[i64],
     frequencies: &[f64],
     settings: Settings,
-    measured: Nanoseconds,
+    measured: Measured,
     values: &mut [f64],
 ) -> FitAnswer
-    requires { ⌜ FitAreas (now instants) (now positions) (now samples) (now frequencies) (now values) × (natAbs (measured .0) ≤ farthestInstant) ⌝ }
+    requires { ⌜ FitAreas (now instants) (now positions) (now samples) (now frequencies) (now values)
+        × (natAbs (measured .instant .0) ≤ farthestInstant)
+        ⌝ }
     ensures { λ r. ⌜ fitIn r ≡ fitOf (inputsOf (now (instants .entry)) (now (positions .entry)) settings)
-        (recording (now (samples .entry)) (now (frequencies .entry))) (measured .0)
+        (recording (now (samples .entry)) (now (frequencies .entry))) measured
         ⌝ }
 {
     let predicted = closest_at(
         instants,
         positions,
         settings.observer,
-        measured,
+        measured.instant,
         settings.tolerance,
     );
-    let centre = centre_between(predicted, measured);
+    let centre = centre_between(predicted, measured.instant);
     let coarse = coarse_stage(
         instants,
         positions,
@@ -95,15 +106,19 @@ pub(crate) fn fit_about(
     let clock_offset = best.shift;
     let frequency_offset = best.frequency_offset;
     let rmse = best.rmse;
+    let approach = measured.instant;
+    let fallback = measured.fallback;
     FitAnswer::Reported(Report {
         clock_offset,
         frequency_offset,
         rmse,
         count: samples.len(),
+        approach,
+        fallback,
     })
 }
 
-// Clock offset, frequency offset and RMSE of samples, by the table and the instant of the measured approach.
+// Clock offset, frequency offset and RMSE of samples, by the table and the instant of the measured approach, which the report repeats.
 pub fn fit_satellite(
     instants: &[i64],
     positions: &[f64],
@@ -135,6 +150,10 @@ pub fn fit_satellite(
         f0,
         tolerance: EVEN_TOLERANCE,
     };
+    let given = Measured {
+        instant: measured,
+        fallback: false,
+    };
     let mut values = [0.0; MOST_SAMPLES];
     fit_about(
         instants,
@@ -142,7 +161,7 @@ pub fn fit_satellite(
         samples,
         frequencies,
         settings,
-        measured,
+        given,
         &mut values,
     )
 }

@@ -10,6 +10,7 @@ ghost use Rattle.orbit.specs.Residuals.{settingsOf, inputsOf};
 ghost use Rattle.orbit.specs.Fit.{fitOf, fitIn};
 ghost use Rattle.orbit.specs.Passes.{measuredBy, pass, passInstants, passFrequencies};
 use crate::fit::FitAnswer;
+use crate::fit::Measured;
 use crate::fit::fit_about;
 use crate::settings::EVEN_TOLERANCE;
 use crate::settings::Settings;
@@ -23,14 +24,7 @@ use units::Hertz;
 use units::Nanoseconds;
 use units::Observer;
 
-// The instant that a pass is fitted about, and whether it is the fallback, the middle sample's, since no slope of the samples is
-// below zero. Request 2.4 will report it; until then only the instant is used.
-struct Measured {
-    instant: Nanoseconds,
-    fallback: bool,
-}
-
-// The measured approach of samples, or else the instant of the one at index count/2.
+// The measured approach of samples, or else, where no slope of theirs is below zero, the fallback: the instant of the one at index count/2.
 fn approach_or_middle(samples: &[i64], frequencies: &[f64]) -> Measured
     requires { ⌜ Samples (now samples) (now frequencies) ⌝ }
     ensures { λ r. ⌜ (r ≡ measuredBy (now (samples .entry)) (now (frequencies .entry))) × (natAbs (r .instant .0) ≤ farthestInstant) ⌝ }
@@ -58,7 +52,7 @@ fn fit_means(
 ) -> FitAnswer
     requires { ⌜ Table (now instants) (now positions) × Samples (now means) (now frequencies) ⌝ }
     ensures { λ r. ⌜ fitIn r ≡ fitOf (inputsOf (now (instants .entry)) (now (positions .entry)) settings)
-        (recording (now (means .entry)) (now (frequencies .entry))) (measuredBy (now (means .entry)) (now (frequencies .entry)) .instant .0)
+        (recording (now (means .entry)) (now (frequencies .entry))) (measuredBy (now (means .entry)) (now (frequencies .entry)))
         ⌝ }
 {
     let measured = approach_or_middle(means, frequencies);
@@ -69,7 +63,7 @@ fn fit_means(
         means,
         frequencies,
         settings,
-        measured.instant,
+        measured,
         &mut values,
     )
 }

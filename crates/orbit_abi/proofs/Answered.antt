@@ -24,7 +24,7 @@ use Rattle.orbit.specs.Window.{evenTolerance, windowStart, windowSeconds, inver
 use Rattle.orbit.specs.Propagation.{motionAt, evaluate, propagateEcef}
 use Rattle.orbit.specs.Closest.{closestInstant, findPcaTime}
 use Rattle.orbit.specs.Residuals.{Inputs, residualOf}
-use Rattle.orbit.specs.Fit.{Trial, trial, Best, noneYet, found, Basis, basisOf, reportOfBest, firstLeast, shifts, fitByTrials, centreOf, fitOf, fitSatellite}
+use Rattle.orbit.specs.Fit.{Trial, trial, Best, noneYet, found, Basis, basisOf, reportOfBest, firstLeast, shifts, fitByTrials, centreOf, fitOf, given, fitSatellite}
 use Rattle.orbit.specs.Passes.{measuredOf, passRefusal, passOutcome, pass}
 
 -- the number 0 is an answer's
@@ -94,13 +94,13 @@ steepest-told ts fs = by-checks (firstFailing (samplesChecks ts fs)) (leastSlope
 
 pub fit-told : (i : Inputs) (ts : List ℤ) (fs : List Float) (measured : ℤ) → Told (fitSatellite i ts fs measured)
 fit-told i ts fs measured =
-    after-checks (firstFailing (fitChecks (i .instants) (i .positions) ts fs (i .settings .observer) (i .settings .f0) measured)) (fitOf i (recording ts fs) measured)
-    (by-fit (trial (residualOf i) (recording ts fs)) (basisOf (recording ts fs)) (centreOf i measured))
+    after-checks (firstFailing (fitChecks (i .instants) (i .positions) ts fs (i .settings .observer) (i .settings .f0) measured)) (fitOf i (recording ts fs) (given measured))
+    (by-fit (trial (residualOf i) (recording ts fs)) (basisOf (recording ts fs) (given measured)) (centreOf i measured))
 
 pub pass-told : (i : Inputs) (ts : List ℤ) (fs : List Float) (is : List ℤ) (hs : List Float) → Told (pass i ts fs is hs)
 pass-told i ts fs is hs =
     let M = means (recording ts fs) in
-    after-checks (passRefusal i ts fs is hs) (passOutcome i (recording ts fs)) (by-fit (trial (residualOf i) M) (basisOf M) (centreOf i (measuredOf M .instant .0)))
+    after-checks (passRefusal i ts fs is hs) (passOutcome i (recording ts fs)) (by-fit (trial (residualOf i) M) (basisOf M (measuredOf M)) (centreOf i (measuredOf M .instant .0)))
 
 pub sp3-told : (bytes satellite : List ℕ) (leaps : LeapSeconds) (is : List ℤ) (ps : List Float) → Told (readSp3 bytes satellite leaps is ps)
 sp3-told bytes satellite leaps is ps = by-checks (sp3Refusal bytes satellite leaps is ps) (length (recordsOf bytes satellite leaps))

@@ -1,5 +1,5 @@
 -- A model as C lends it: 32 doubles, t0, t9, then ten coefficients each of x, y and z; and a motion: position and velocity, x, y, z each;
--- and a report: clock offset, frequency offset, RMSE.
+-- and a report: clock offset, frequency offset, RMSE; and whether its instant is the fallback, as a number.
 -- Assumes nothing.
 use Prim.Native.Nat.{ℕ, _+_, _-_}
 use mathlib.Core.Bool.{cond}
@@ -45,6 +45,10 @@ motionNumbers m = m .position .x ∷ m .position .y ∷ m .position .z ∷ m .ve
 -- clock offset in seconds, frequency offset and RMSE in hertz
 abbrev pub reportNumbers : Report → List Float
 reportNumbers r = r .«clock_offset» .0 ∷ r .«frequency_offset» .0 ∷ r .rmse .0 ∷ []
+
+-- whether its instant is the fallback: 1 yes, 0 no
+abbrev pub fallbackNumber : Report → ℕ
+fallbackNumber r = cond (r .fallback) 1 0
 
 -- the observer at three lengths
 abbrev pub observerOf : Metres → Metres → Metres → Observer

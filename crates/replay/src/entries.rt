@@ -282,7 +282,7 @@ fn steepest_slope(case: Case, wholes: &Wholes, doubles: &Doubles) -> bool {
     case.after_two == 0
 }
 
-// Puts a refusal, or 0, clock offset, frequency offset, RMSE and count.
+// Puts a refusal, or 0, clock offset, frequency offset, RMSE, count, the instant and 1 or 0 for the fallback.
 fn print_fit(fit: FitAnswer) {
     match fit {
         FitAnswer::Refused(refusal) => print_refusal(refusal),
@@ -296,11 +296,13 @@ fn print_fit(fit: FitAnswer) {
                 ],
             );
             print_word(report.count as u64);
+            print_word(unsigned(report.approach.0));
+            print_word(report.fallback as u64);
         }
     }
 }
 
-// `fit_satellite INSTANTS POSITIONS SAMPLES FREQUENCIES OX OY OZ F0 MEASURED`: the refusal alone, or 0, three doubles and the count.
+// `fit_satellite INSTANTS POSITIONS SAMPLES FREQUENCIES OX OY OZ F0 MEASURED`: the refusal alone, or 0 and the report.
 fn fit_satellite(case: Case, wholes: &Wholes, doubles: &Doubles) -> bool {
     let words = ten_doubles(doubles, case.fourth);
     print_fit(orbit::fit_satellite(
@@ -315,7 +317,7 @@ fn fit_satellite(case: Case, wholes: &Wholes, doubles: &Doubles) -> bool {
     case.after_four == 5
 }
 
-// `pass INSTANTS POSITIONS SAMPLES FREQUENCIES OX OY OZ F0 LENGTH LENGTH`: the refusal, or 0, three doubles and the count; the areas follow.
+// `pass INSTANTS POSITIONS SAMPLES FREQUENCIES OX OY OZ F0 LENGTH LENGTH`: the refusal, or 0 and the report; the areas follow.
 fn pass(
     case: Case,
     wholes: &Wholes,

@@ -2,6 +2,7 @@
 
 use crate::{faulty, of};
 use compare::calls::{Call, Entry};
+use compare::inputs::approaches;
 use compare::inputs::passes::{self, Kind, Size};
 use compare::inputs::random::Random;
 
@@ -29,6 +30,8 @@ pub fn cases() -> Vec<(Entry, Call)> {
         list.extend(of(entry, calls(&mut random)));
         list.extend(faulty::calls(&mut random, entry, false));
     }
+    let approaches = approaches::KINDS.map(|kind| (kind.draw)(&mut random, SIZE));
+    list.extend(approaches.map(|call| (Entry::Pass, call)));
     list
 }
 

@@ -30,22 +30,22 @@ abbrev try-of : tie.Start → Float → Trial
 try-of s = let a = s .args in trialBy (a .instants .now) (a .positions .now) (a .samples .now) (a .frequencies .now) (a .settings)
 
 abbrev centre-of : tie.Start → Float
-centre-of s = let a = s .args in centreOf (inputsOf (a .instants .now) (a .positions .now) (a .settings)) (a .measured .0)
+centre-of s = let a = s .args in centreOf (inputsOf (a .instants .now) (a .positions .now) (a .settings)) (a .measured .instant .0)
 
--- what the code counts
-abbrev basis-of : ℕ → Basis
-basis-of n = record { count = n }
+-- what the code counts, and what it was given
+abbrev basis-of : tie.Start → ℕ → Basis
+basis-of s n = record { count = n; measured = s .args .measured }
 
 -- the centre is small
 small-of : (s : tie.Start) → Within farthestCentre (centre-of s)
-small-of s = let a = s .args in centre-small (a .settings .tolerance) (a .instants .now) (a .positions .now) (a .settings .observer) (a .measured .0)
+small-of s = let a = s .args in centre-small (a .settings .tolerance) (a .instants .now) (a .positions .now) (a .settings .observer) (a .measured .instant .0)
 
 abbrev start-of : tie.After-coarse-stage → tie.Start
 start-of c = let near = c .before .before .before in near .before .before .before .before
 
 -- the centre, and the least so far after the coarse stage
 centre-is : (c : tie.After-centre-between) → c .centre-between .result .0 ≡ centre-of (c .before .before .before .before .before)
-centre-is c = let s = c .before .before .before .before .before in c .centre-between .ensures ∙ ap (λ (z : ℤ). gapOf z (s .args .measured .0)) (c .before .closest-at .ensures)
+centre-is c = let s = c .before .before .before .before .before in c .centre-between .ensures ∙ ap (λ (z : ℤ). gapOf z (s .args .measured .instant .0)) (c .before .closest-at .ensures)
 
 coarse-is : (c : tie.After-coarse-stage) → let s = start-of c in c .coarse-stage .result ≡ afterCoarse (try-of s) (centre-of s)
 coarse-is c = c .coarse-stage .ensures ∙ ap (afterCoarse (try-of (start-of c))) (centre-is (c .before .before))
@@ -58,7 +58,7 @@ centre-between-requires c κs =
     let s = c .before .before .before .before in
     let a = s .args in (
       subst (λ (z : ℤ). natAbs z ≤ farthestMoved) (sym (c .closest-at .ensures))
-          (predicted-near (a .settings .tolerance) (a .instants .now) (a .positions .now) (a .settings .observer) (a .measured .0) (s .pre .1)),
+          (predicted-near (a .settings .tolerance) (a .instants .now) (a .positions .now) (a .settings .observer) (a .measured .instant .0) (s .pre .1)),
       s .pre .1,
     )
 
@@ -72,18 +72,18 @@ same-length c = search needs
 
 -- what is answered, by the least so far after the coarse stage
 answer-is : (c : tie.After-coarse-stage) → let s = start-of c in let a = s .args in
-    finished (try-of s) (basis-of (length (a .samples .now))) (c .coarse-stage .result) ≡ fitOf (inputsOf (a .instants .now) (a .positions .now) (a .settings)) (recording (a .samples .now) (a .frequencies .now)) (a .measured .0)
+    finished (try-of s) (basis-of s (length (a .samples .now))) (c .coarse-stage .result) ≡ fitOf (inputsOf (a .instants .now) (a .positions .now) (a .settings)) (recording (a .samples .now) (a .frequencies .now)) (a .measured)
 answer-is c =
     let s = start-of c in
     let a = s .args in
     let n = length (a .samples .now) in
-    ap (finished (try-of s) (basis-of n)) (coarse-is c)
-    ∙ fit-is (try-of s) (basis-of n) (centre-of s)
-    ∙ ap (λ (m : ℕ). fitByTrials (try-of s) (basis-of m) (centre-of s)) (sym (record-length (a .samples .now) (a .frequencies .now) (s .pre .0 .sampled .same)))
+    ap (finished (try-of s) (basis-of s n)) (coarse-is c)
+    ∙ fit-is (try-of s) (basis-of s n) (centre-of s)
+    ∙ ap (λ (m : ℕ). fitByTrials (try-of s) (basis-of s m) (centre-of s)) (sym (record-length (a .samples .now) (a .frequencies .now) (s .pre .0 .sampled .same)))
 
 -- the report of the least so far where a coarse shift is usable, and else refusal 10
 abbrev choice-of : tie.After-coarse-stage → Bool → Outcome Report
-choice-of c b = let s = start-of c in cond b (answered (reportOfState (basis-of (length (s .args .samples .now))) (refined (try-of s) (c .coarse-stage .result)))) (refused noneUsableRefusal)
+choice-of c b = let s = start-of c in cond b (answered (reportOfState (basis-of s (length (s .args .samples .now))) (refined (try-of s) (c .coarse-stage .result)))) (refused noneUsableRefusal)
 
 returns : tie.Need-returns
 unfolding ofBits
@@ -106,11 +106,11 @@ same-length-2 c = search needs
 returns-2 : tie.Need-returns-2
 unfolding ofBits
 returns-2 c =
-    let call = c .before .before .before .before .before in
+    let call = c .before .before .before .before .before .before in
     let usable = call .before .before in
     let at = usable .before .before .before .before in
     let s = start-of at in
-    ap (λ (x : LeastSoFar). answered (reportOfState (basis-of (length (s .args .samples .now))) x)) (call .refine .ensures)
+    ap (λ (x : LeastSoFar). answered (reportOfState (basis-of s (length (s .args .samples .now))) x)) (call .refine .ensures)
     ∙ sym (ap (choice-of at) (not-false (lt (at .coarse-stage .result .rmse .0) largestFinite) (usable .if1 .left)))
     ∙ answer-is at
 

@@ -9,7 +9,7 @@ use Rattle.checks.proofs.Checked.{fit-table, fit-samples, fit-near}
 use Rattle.common.proofs.Outcomes.{unless-refused, unless-none}
 use Rattle.orbit.specs.declared.fit.Report.{Report}
 use Rattle.orbit.specs.Window.{evenTolerance}
-use Rattle.orbit.specs.Fit.{fitOf}
+use Rattle.orbit.specs.Fit.{given, fitOf}
 use Rattle.orbit.specs.Residuals.{settingsOf, inputsOf}
 use borrow.Author.Needs.{needs}
 use Rattle.orbit.proofs.fit.fit_satellite.Statement.{statement}
@@ -21,7 +21,7 @@ failing-of s = let a = s .args in firstFailing (fitChecks (a .instants .now) (a 
 abbrev fit-of : tie.Start → Outcome Report
 fit-of s =
     let a = s .args in
-    fitOf (inputsOf (a .instants .now) (a .positions .now) (settingsOf (a .observer) (a .f0) evenTolerance)) (recording (a .samples .now) (a .frequencies .now)) (a .measured .0)
+    fitOf (inputsOf (a .instants .now) (a .positions .now) (settingsOf (a .observer) (a .f0) evenTolerance)) (recording (a .samples .now) (a .frequencies .now)) (given (a .measured .0))
 
 refuse-fit-requires : tie.Need-refuse-fit-requires
 refuse-fit-requires c κs = search needs

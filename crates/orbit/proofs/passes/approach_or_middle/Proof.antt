@@ -6,7 +6,7 @@ use lib.ListN.{length}
 use Rattle.common.specs.Outcome.{refused, unlessRefused}
 use Rattle.checks.proofs.Checked.{samples-pass}
 use Rattle.samples.specs.Approach.{approachOf, approachIn}
-use Rattle.orbit.specs.declared.passes.Measured.{Measured}
+use Rattle.orbit.specs.declared.fit.Measured.{Measured}
 use Rattle.orbit.specs.Passes.{approachOr, middleOf, measuredBy}
 use Rattle.orbit.proofs.Offsets.{near-is}
 use Rattle.orbit.proofs.Middles.{measured-near}

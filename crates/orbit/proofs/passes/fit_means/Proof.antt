@@ -1,7 +1,7 @@
 -- The means have room among the values, and their measured approach is near. Assumes nothing.
 use mathlib.Core.Path.{ap, _∙_}
 use Rattle.samples.specs.Means.{recording}
-use Rattle.orbit.specs.declared.passes.Measured.{Measured}
+use Rattle.orbit.specs.declared.fit.Measured.{Measured}
 use Rattle.orbit.specs.Fit.{fitOf}
 use Rattle.orbit.specs.Residuals.{inputsOf}
 use borrow.Author.Needs.{needs}
@@ -27,7 +27,7 @@ returns c =
     let at = call .before .before in
     let a = at .before .before .before .args in
     call .fit-about .ensures
-    ∙ ap (λ (m : Measured). fitOf (inputsOf (a .instants .now) (a .positions .now) (a .settings)) (recording (a .means .now) (a .frequencies .now)) (m .instant .0)) (at .approach-or-middle .ensures .0)
+    ∙ ap (λ (m : Measured). fitOf (inputsOf (a .instants .now) (a .positions .now) (a .settings)) (recording (a .means .now) (a .frequencies .now)) m) (at .approach-or-middle .ensures .0)
 
 pub fit-means-spec : {M : Type 1} → statement M
 fit-means-spec =

@@ -95,11 +95,11 @@ module _ (c : tie.After-downsample-data) (n : ℕ) (is : n ≡ length (means-of 
   front-sampled : Samples (take n (instant-area c)) (take n (frequency-area c))
   front-sampled = subst (λ (l : List ℤ). Samples l (take n (frequency-area c))) (sym instants-front) (subst (Samples (instants (means-of (start-of c)))) (sym frequencies-front) (means-sampled (start-of c .args .samples .now) (start-of c .args .frequencies .now) (passed c)))
 
-  front-fitted : (i : Inputs) → fitOf i (recording (take n (instant-area c)) (take n (frequency-area c))) (measuredBy (take n (instant-area c)) (take n (frequency-area c)) .instant .0) ≡ passOutcome i (samples-of (start-of c))
+  front-fitted : (i : Inputs) → fitOf i (recording (take n (instant-area c)) (take n (frequency-area c))) (measuredBy (take n (instant-area c)) (take n (frequency-area c))) ≡ passOutcome i (samples-of (start-of c))
   front-fitted i =
       let M = means-of (start-of c) in
-      ap₂ (λ (t : List ℤ) (f : List Float). fitOf i (recording t f) (measuredBy t f .instant .0)) instants-front frequencies-front
-      ∙ ap (λ (l : List Sample). fitOf i l (measuredOf M .instant .0)) (by-parts M)
+      ap₂ (λ (t : List ℤ) (f : List Float). fitOf i (recording t f) (measuredBy t f)) instants-front frequencies-front
+      ∙ ap (λ (l : List Sample). fitOf i l (measuredOf M)) (by-parts M)
 
 refuse-pass-requires : tie.Need-refuse-pass-requires
 refuse-pass-requires c κs = search needs

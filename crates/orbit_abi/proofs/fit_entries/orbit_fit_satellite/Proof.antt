@@ -1,7 +1,7 @@
--- The report that is put into the two areas is that of the fit. Assumes nothing.
+-- The report that is put into the four areas is that of the fit. Assumes nothing.
 use Rattle.orbit.specs.Fit.{fitSatellite, fitIn}
 use Rattle.orbit.specs.declared.fit.Report.{Report}
-use Rattle.orbit_abi.specs.Models.{inputsIn, reportNumbers}
+use Rattle.orbit_abi.specs.Models.{inputsIn, reportNumbers, fallbackNumber}
 use Rattle.orbit_abi.proofs.Outcomes.{given-as}
 use borrow.Author.Needs.{needs}
 use Rattle.orbit_abi.proofs.fit_entries.orbit_fit_satellite.Statement.{statement}
@@ -15,7 +15,7 @@ report-into-requires c κs = search needs
 
 returns : tie.Need-returns
 returns c =
-    let call = c .before .before .before in
+    let call = c .before .before .before .before .before in
     let args = call .before .before .before .args in
     let inputs = inputsIn (args .instants .now) (args .positions .now) (args .ox) (args .oy) (args .oz) (args .f0) in
     let fit = fitSatellite inputs (args .samples .now) (args .frequencies .now) (args .measured .0) in
@@ -24,7 +24,9 @@ returns c =
     let here = call .fit-satellite .ensures in
     let numbers = given-as reportNumbers fit (args .report .now) found _ _ (told .0, told .1) here in
     let counted = given-as (λ (x : Report). x .count) fit (args .count .now) found _ _ (told .0, told .2) here in
-    (numbers .0, (numbers .1, counted .1))
+    let taken = given-as (λ (x : Report). x .approach .0) fit (args .approach .now) found _ _ (told .0, told .3) here in
+    let fallen = given-as fallbackNumber fit (args .fallback .now) found _ _ (told .0, told .4) here in
+    (numbers .0, (numbers .1, (counted .1, (taken .1, fallen .1))))
 
 pub orbit-fit-satellite-spec : {M : Type 1} → statement M
 orbit-fit-satellite-spec = tie.close (tie.spec fit-satellite-requires report-into-requires returns)

@@ -1,8 +1,12 @@
--- By the answer's case: a report goes into the two areas, and a refusal leaves them. Assumes nothing.
-use mathlib.Core.Path.{refl, sym, ap}
+-- By the answer's case: a report goes into the four areas, and a refusal leaves them. Assumes nothing.
+use mathlib.Core.Path.{_≡_, refl, sym, ap}
+use mathlib.Core.Bool.{Bool, true, false, cond}
+use mir.Syntax.{w64}
+use mir.Val.{boolByte}
+use mir.ValLaws.{toZ-ofZ}
 use Rattle.orbit.specs.Fit.{fitIn}
 use Rattle.orbit.specs.declared.fit.Report.{Report}
-use Rattle.orbit_abi.specs.Models.{reportNumbers}
+use Rattle.orbit_abi.specs.Models.{reportNumbers, fallbackNumber}
 use Rattle.orbit_abi.proofs.Outcomes.{answered-as}
 use borrow.Author.Needs.{needs}
 use Rattle.orbit_abi.proofs.fit_entries.report_into.Statement.{statement}
@@ -14,17 +18,28 @@ enum-known-found c = search needs
 enum-known-found-2 : tie.Need-enum-known-found-2
 enum-known-found-2 c = search needs
 
+cast-fallback : tie.Need-cast-fallback
+cast-fallback c = search needs
+
+-- a yes or no cast to a number
+by-number : (b : Bool) → boolByte b ≡ cond b 1 0
+by-number true = refl
+by-number false = refl
+
 returns : tie.Need-returns
 returns c =
-    let args = c .before .before .before .args in
-    let told = c .before .found .given in
+    let args = c .before .before .before .before .before .args in
+    let told = c .before .before .before .found .given in
+    let t = told .0 .0 .approach .0 in
     let here = sym (ap fitIn (told .1)) in
     let numbers = answered-as reportNumbers (fitIn (args .found)) (args .report .now) (told .0 .0) _ refl here in
     let counted = answered-as (λ (x : Report). x .count) (fitIn (args .found)) (args .count .now) (told .0 .0) _ refl here in
-    (numbers .0, numbers .1, counted .1)
+    let taken = answered-as (λ (x : Report). x .approach .0) (fitIn (args .found)) (args .approach .now) (told .0 .0) _ (toZ-ofZ w64 t (record { sfits = c .before .struct-told .given .1 .1 .1 .1 .0 .1 .1 .0 .1 })) here in
+    let fallen = answered-as fallbackNumber (fitIn (args .found)) (args .fallback .now) (told .0 .0) _ (by-number (told .0 .0 .fallback)) here in
+    (numbers .0, numbers .1, counted .1, taken .1, fallen .1)
 
 returns-2 : tie.Need-returns-2
 returns-2 c = search needs
 
 pub report-into-spec : {M : Type 1} → statement M
-report-into-spec = tie.close (tie.spec enum-known-found enum-known-found-2 returns returns-2)
+report-into-spec = tie.close (tie.spec enum-known-found cast-fallback enum-known-found-2 returns returns-2)
