@@ -137,20 +137,22 @@ uint8_t orbit_steepest_slope(const int64_t *instants, size_t instant_count, cons
  * 2,000,000 m where the slope's magnitude is at most 0.1 or NaN. */
 orbit_metres orbit_estimate_slant_range(orbit_hertz f0, double slope);
 
-/* The fit of a recording to a satellite, about the instant of its measured approach. Into count: the number of samples.
- * Refuses by 1, 2, 4, 5, 6, 7, 10. */
+/* The fit of a recording to a satellite, about the instant of its measured approach. Into count: the number of samples; into approach:
+ * that instant again; into fallback: 0, since it was given. Refuses by 1, 2, 4, 5, 6, 7, 10. */
 uint8_t orbit_fit_satellite(const int64_t *instants, size_t instant_count, const double *positions, size_t position_count,
                             const int64_t *samples, size_t sample_count, const double *frequencies, size_t frequency_count,
                             orbit_metres ox, orbit_metres oy, orbit_metres oz, orbit_hertz f0, orbit_nanoseconds measured,
-                            orbit_report *report, uint64_t *count);
+                            orbit_report *report, uint64_t *count, orbit_nanoseconds *approach, uint8_t *fallback);
 
 /* The whole pass: the means of a recording, as above, their measured approach or else the mean at index count / 2, and the fit of the means.
- * Into count: the number of means. Refuses by 1, 2, 3, 4, 5, 6, 7, 10; under 10 the means stay written. */
+ * Into count: the number of means; into approach: the instant that the clock offset was taken about, by the recorder's clock; into fallback:
+ * 1 if that is the mean at index count / 2, since no slope of the means is below zero, 0 if it is their measured approach.
+ * Refuses by 1, 2, 3, 4, 5, 6, 7, 10; under 10 the means stay written. */
 uint8_t orbit_pass(const int64_t *instants, size_t instant_count, const double *positions, size_t position_count,
                    const int64_t *samples, size_t sample_count, const double *frequencies, size_t frequency_count,
                    orbit_metres ox, orbit_metres oy, orbit_metres oz, orbit_hertz f0,
                    int64_t *mean_instants, size_t mean_instant_count, double *mean_frequencies, size_t mean_frequency_count,
-                   orbit_report *report, uint64_t *count);
+                   orbit_report *report, uint64_t *count, orbit_nanoseconds *approach, uint8_t *fallback);
 
 /* The positions of one satellite in the bytes of an orbit file in SP3-c, in the file's order, as instants and x, y, z in metres at the
  * front of the two areas; the rest of each stays. The satellite is its three bytes in the file, such as {'G', '0', '5'}. A file in UTC

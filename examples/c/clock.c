@@ -1,11 +1,12 @@
 /* Runs one pass of a satellite from an orbit file and the sample data of examples/data and prints what the library answers; then shows
- * two refusals.
+ * a recording without an approach, and two refusals.
  * usage: clock FILE, an orbit file in SP3-c
  * Exit status 0: all was as expected. */
 #include <inttypes.h>
 #include <stdbool.h>
 #include <stdio.h>
 #include <string.h>
+#include <time.h>
 
 #include "orbit.h"
 #include "refusals.h"
@@ -28,6 +29,7 @@ static const struct { double clock_offset, frequency_offset; } known[] = {
 enum {
     LONGEST_FILE = 1 << 20, /* bytes */
     SAMPLES = sizeof recording / sizeof recording[0],
+    FEW_SAMPLES = 5, /* too few for an approach: they lie in two seconds */
     MEANS_SHOWN = 3
 };
 
@@ -56,6 +58,8 @@ typedef struct {
     double mean_frequencies[ORBIT_MOST_SAMPLES]; /* Hz */
     orbit_report report;
     uint64_t count;                              /* of means */
+    orbit_nanoseconds approach;                  /* that the clock offset was taken about */
+    uint8_t fallback;                            /* whether that is the middle mean's */
 } pass_answer;
 
 static orbit_hertz centre_frequency(void)
@@ -93,15 +97,15 @@ static uint8_t read_table(const sp3_file *file, pass_table *table)
                           &table->count);
 }
 
-/* The whole pass: 0, or the number of the refusal. */
-static uint8_t run_pass(const pass_table *table, const pass_recording *samples, pass_answer *answer)
+/* The whole pass, of the first so many samples: 0, or the number of the refusal. */
+static uint8_t run_pass(const pass_table *table, const pass_recording *samples, size_t sample_count, pass_answer *answer)
 {
     const orbit_metres ox = {station[0].x}, oy = {station[0].y}, oz = {station[0].z};
     return orbit_pass(table->instants, table->count, table->positions, 3 * table->count,
-                      samples->instants, SAMPLES, samples->frequencies, SAMPLES,
+                      samples->instants, sample_count, samples->frequencies, sample_count,
                       ox, oy, oz, centre_frequency(),
                       answer->mean_instants, ORBIT_MOST_SAMPLES, answer->mean_frequencies, ORBIT_MOST_SAMPLES,
-                      &answer->report, &answer->count);
+                      &answer->report, &answer->count, &answer->approach, &answer->fallback);
 }
 
 static void print_refusal(uint8_t refusal)
@@ -115,20 +119,22 @@ static void print_refusal(uint8_t refusal)
     printf("what to do        %s\n", what_to_do(refusal));
 }
 
-/* An instant as the time of day, UTC, to the microsecond. */
-static void print_time_of_day(int64_t nanoseconds)
+/* An instant in UTC, to the microsecond, cut toward earlier: the date and the time of day, or the time of day alone. */
+static void print_instant(int64_t nanoseconds, const char *format)
 {
-    const int64_t microseconds = nanoseconds / 1000 % (INT64_C(86400) * 1000000);
-    const int64_t seconds = microseconds / 1000000;
-    printf("%02" PRId64 ":%02" PRId64 ":%02" PRId64 ".%06" PRId64, seconds / 3600, seconds / 60 % 60, seconds % 60,
-           microseconds % 1000000);
+    const int64_t second = 1000000000;
+    const int64_t part = (nanoseconds % second + second) % second; /* ns since the second began */
+    const time_t seconds = (time_t)((nanoseconds - part) / second);
+    char text[32];
+    strftime(text, sizeof text, format, gmtime(&seconds));
+    printf("%s.%06" PRId64 " UTC", text, part / 1000);
 }
 
 static void print_mean(const pass_answer *answer, size_t i)
 {
     printf("    mean %3zu      ", i + 1);
-    print_time_of_day(answer->mean_instants[i]);
-    printf(" UTC  %.3f Hz\n", answer->mean_frequencies[i]);
+    print_instant(answer->mean_instants[i], "%H:%M:%S");
+    printf("  %.3f Hz\n", answer->mean_frequencies[i]);
 }
 
 /* The first means and the last. */
@@ -145,13 +151,23 @@ static void print_means(const pass_answer *answer)
     }
 }
 
+/* How many means there are, and the instant that the clock offset was taken about. */
+static void print_count_and_approach(const pass_answer *answer)
+{
+    printf("count of means    %" PRIu64 "\n", answer->count);
+    printf("taken about       ");
+    print_instant(answer->approach.nanoseconds, "%Y-%m-%d %H:%M:%S");
+    printf(" by the recorder's clock, %s\n",
+           answer->fallback ? "the middle of the recording: it shows no approach" : "where the frequency falls fastest");
+}
+
 static void print_report(const pass_answer *answer)
 {
     const orbit_report *report = &answer->report;
     printf("clock offset      %.5f s (above zero: the recorder's clock is ahead)\n", report->clock_offset.seconds);
     printf("frequency offset  %.3f Hz\n", report->frequency_offset.hertz);
     printf("RMSE              %.3f Hz\n", report->rmse.hertz);
-    printf("count of means    %" PRIu64 "\n", answer->count);
+    print_count_and_approach(answer);
 }
 
 /* The steepest slope of the means, and the slant range by it: 0, or the number of the refusal. */
@@ -198,7 +214,7 @@ static bool show_table(const char *name, const sp3_file *file, pass_table *table
 /* The pass of the sample data. */
 static bool show_pass(const pass_table *table, const pass_recording *samples, pass_answer *answer)
 {
-    uint8_t refusal = run_pass(table, samples, answer);
+    uint8_t refusal = run_pass(table, samples, SAMPLES, answer);
     if (refusal == 0) {
         print_report(answer);
         print_means(answer);
@@ -209,6 +225,19 @@ static bool show_pass(const pass_table *table, const pass_recording *samples, pa
         return false;
     }
     return print_known(answer);
+}
+
+/* The pass of the first few samples shows no approach, so that it is taken about the middle mean. */
+static bool show_few_samples(const pass_table *table, const pass_recording *samples, pass_answer *answer)
+{
+    printf("\nThe same pass, its first %d samples alone\n", FEW_SAMPLES);
+    const uint8_t refusal = run_pass(table, samples, FEW_SAMPLES, answer);
+    if (refusal != 0) {
+        print_refusal(refusal);
+        return false;
+    }
+    print_count_and_approach(answer);
+    return answer->fallback && answer->approach.nanoseconds == answer->mean_instants[answer->count / 2];
 }
 
 /* A call that should be refused: whether it was, by that number, and wrote nothing. */
@@ -227,9 +256,9 @@ static bool show_kilometres(pass_table *table, const pass_recording *samples, pa
         table->positions[i] /= 1000.0;
     }
     memset(answer, 0x5A, sizeof *answer); /* a mark in every byte that is lent */
-    before = *answer;
+    memcpy(&before, answer, sizeof before);
     printf("\nThe same pass, the table in kilometres\n");
-    const uint8_t refusal = run_pass(table, samples, answer);
+    const uint8_t refusal = run_pass(table, samples, SAMPLES, answer);
     return print_refused(refusal, 6, memcmp(&before, answer, sizeof before) == 0);
 }
 
@@ -243,7 +272,7 @@ static bool show_commas(sp3_file *file, pass_table *table)
         }
     }
     memset(table, 0x5A, sizeof *table); /* a mark in every byte that is lent */
-    before = *table;
+    memcpy(&before, table, sizeof before);
     printf("\nThe same orbit file, commas for points\n");
     const uint8_t refusal = read_table(file, table);
     return print_refused(refusal, 11, memcmp(&before, table, sizeof before) == 0);
@@ -262,7 +291,8 @@ int main(int argc, char **argv)
     load_recording(&samples);
     printf("A pass: %d samples, centre frequency %.0f Hz\n", SAMPLES, centre_frequency().hertz);
     const bool answered = show_table(argv[1], &file, &table) && show_pass(&table, &samples, &answer);
+    const bool few_answered = answered && show_few_samples(&table, &samples, &answer);
     const bool kilometres_refused = show_kilometres(&table, &samples, &answer);
     const bool commas_refused = show_commas(&file, &table);
-    return answered && kilometres_refused && commas_refused ? 0 : 1;
+    return few_answered && kilometres_refused && commas_refused ? 0 : 1;
 }

@@ -1,4 +1,5 @@
-//! Runs one pass of a satellite from the sample data of examples/data and prints what the library answers; then shows two refusals.
+//! Runs one pass of a satellite from the sample data of examples/data and prints what the library answers; then shows a recording
+//! without an approach, and two refusals.
 //! Prints the same lines as examples/c/clock.c. Exit status 0: all was as expected.
 
 mod data;
@@ -10,8 +11,14 @@ use orbit::{
 };
 use std::process::ExitCode;
 
+/// Nanoseconds in a second.
+const SECOND: i64 = 1_000_000_000;
+
 /// How many means are printed, beside the last.
 const MEANS_SHOWN: usize = 3;
+
+/// Too few samples for an approach: they lie in two seconds.
+const FEW_SAMPLES: usize = 5;
 
 /// A mark for the lent areas: no pass of the sample data writes these.
 const MARK: (Nanoseconds, Hertz) = (Nanoseconds(-1), Hertz(-1.0));
@@ -68,10 +75,7 @@ impl Areas {
 
 fn main() -> ExitCode {
     let sample = Sample::load();
-    let answered = show_pass(&sample).unwrap_or_else(|refusal| {
-        print_refusal(refusal);
-        false
-    });
+    let answered = as_expected(show_pass(&sample)) && as_expected(show_few_samples(&sample));
     let kilometres_refused = show_kilometres(sample);
     let commas_refused = show_commas();
     if answered && kilometres_refused && commas_refused {
@@ -79,6 +83,14 @@ fn main() -> ExitCode {
     } else {
         ExitCode::FAILURE
     }
+}
+
+/// Whether an answer was as expected; a refusal is not, and is printed.
+fn as_expected(answer: Result<bool, Refusal>) -> bool {
+    answer.unwrap_or_else(|refusal| {
+        print_refusal(refusal);
+        false
+    })
 }
 
 /// The pass of the sample data; whether it found the offsets that went into them.
@@ -91,7 +103,7 @@ fn show_pass(sample: &Sample) -> Result<bool, Refusal> {
     let satellite = SATELLITE.escape_ascii();
     println!("table             {coordinates} coordinates of {satellite} from table.sp3");
     let mut areas = Areas::new();
-    let report = run_pass(sample, &mut areas)?;
+    let report = run_pass(sample, sample.recording(), &mut areas)?;
     let means = areas.means(&report);
     print_report(&report);
     print_means(means);
@@ -99,11 +111,25 @@ fn show_pass(sample: &Sample) -> Result<bool, Refusal> {
     Ok(print_known(&sample.known, &report))
 }
 
-/// The whole pass; the means at the front of the areas.
-fn run_pass(sample: &Sample, areas: &mut Areas) -> Result<Report, Refusal> {
+/// The pass of the first few samples shows no approach; whether it was taken about the middle mean.
+fn show_few_samples(sample: &Sample) -> Result<bool, Refusal> {
+    println!("\nThe same pass, its first {FEW_SAMPLES} samples alone");
+    let few = Recording {
+        instants: &sample.samples[..FEW_SAMPLES],
+        frequencies: &sample.frequencies[..FEW_SAMPLES],
+    };
+    let mut areas = Areas::new();
+    let report = run_pass(sample, few, &mut areas)?;
+    print_count_and_approach(&report);
+    let middle = areas.means(&report).instants[report.count as usize / 2];
+    Ok(report.fallback && report.approach == middle)
+}
+
+/// The whole pass of a recording; the means at the front of the areas.
+fn run_pass(sample: &Sample, recording: Recording, areas: &mut Areas) -> Result<Report, Refusal> {
     orbit::pass(
         sample.table(),
-        sample.recording(),
+        recording,
         sample.observer,
         sample.centre_frequency,
         areas.lent(),
@@ -115,7 +141,19 @@ fn print_report(report: &Report) {
     println!("clock offset      {clock_offset:.5} s (above zero: the recorder's clock is ahead)");
     println!("frequency offset  {:.3} Hz", report.frequency_offset.0);
     println!("RMSE              {:.3} Hz", report.rmse.0);
+    print_count_and_approach(report);
+}
+
+/// How many means there are, and the instant that the clock offset was taken about.
+fn print_count_and_approach(report: &Report) {
     println!("count of means    {}", report.count);
+    let (date, time) = (date_of(report.approach), time_of_day(report.approach));
+    let which = if report.fallback {
+        "the middle of the recording: it shows no approach"
+    } else {
+        "where the frequency falls fastest"
+    };
+    println!("taken about       {date} {time} UTC by the recorder's clock, {which}");
 }
 
 /// The first means and the last.
@@ -140,9 +178,34 @@ fn print_mean(means: Recording, i: usize) {
     );
 }
 
-/// An instant as the time of day, to the microsecond.
+/// The date of an instant, UTC.
+fn date_of(Nanoseconds(nanoseconds): Nanoseconds) -> String {
+    let leap = |year: i64| year % 4 == 0 && (year % 100 != 0 || year % 400 == 0);
+    let mut days = nanoseconds.div_euclid(86_400 * SECOND);
+    let mut year = 1970;
+    while days < 0 {
+        year -= 1;
+        days += 365 + i64::from(leap(year));
+    }
+    while days >= 365 + i64::from(leap(year)) {
+        days -= 365 + i64::from(leap(year));
+        year += 1;
+    }
+    let february = 28 + i64::from(leap(year));
+    let mut month = 1;
+    for length in [31, february, 31, 30, 31, 30, 31, 31, 30, 31, 30] {
+        if days < length {
+            break;
+        }
+        days -= length;
+        month += 1;
+    }
+    format!("{year}-{month:02}-{:02}", days + 1)
+}
+
+/// The time of day of an instant, to the microsecond, cut toward earlier.
 fn time_of_day(Nanoseconds(nanoseconds): Nanoseconds) -> String {
-    let microseconds = nanoseconds / 1000 % (86_400 * 1_000_000);
+    let microseconds = nanoseconds.rem_euclid(86_400 * SECOND) / 1000;
     let (seconds, fraction) = (microseconds / 1_000_000, microseconds % 1_000_000);
     let (hour, minute, second) = (seconds / 3600, seconds / 60 % 60, seconds % 60);
     format!("{hour:02}:{minute:02}:{second:02}.{fraction:06}")
@@ -180,7 +243,7 @@ fn show_kilometres(mut sample: Sample) -> bool {
     }
     println!("\nThe same pass, the table in kilometres");
     let mut areas = Areas::new();
-    let refusal = run_pass(&sample, &mut areas).err();
+    let refusal = run_pass(&sample, sample.recording(), &mut areas).err();
     print_refused(refusal, Refusal::PositionBeyondLimits, areas.untouched())
 }
 

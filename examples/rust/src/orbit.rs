@@ -85,6 +85,10 @@ pub struct Report {
     pub rmse: Hertz,
     /// Of the means in a pass, of the samples in a fit.
     pub count: u64,
+    /// The instant that the clock offset was taken about, by the recorder's clock; in a fit the given one.
+    pub approach: Nanoseconds,
+    /// Whether that is the middle mean's, since no slope of the means is below zero; never in a fit.
+    pub fallback: bool,
 }
 
 /// The Chebyshev model of ten coordinates: their first time and their last, and ten coefficients of each axis.
@@ -106,27 +110,38 @@ pub struct Motion {
     pub velocity: [MetresPerSecond; 3],
 }
 
-/// A report as the library writes it, without the count: `orbit_report` of include/orbit.h.
+/// The three numbers of a report as the library writes them: `orbit_report` of include/orbit.h.
 #[repr(C)]
 #[derive(Default)]
-struct Fitted {
+struct Offsets {
     clock_offset: Seconds,
     frequency_offset: Hertz,
     rmse: Hertz,
 }
 
+/// All that the library writes of a report.
+#[derive(Default)]
+struct Fitted {
+    offsets: Offsets,
+    count: u64,
+    approach: Nanoseconds,
+    fallback: u8,
+}
+
 // The library reads and writes these as 32, 6 and 3 doubles, one after the other: there must be no padding.
 const _: () = assert!(size_of::<ChebyshevModel>() == 256);
 const _: () = assert!(size_of::<Motion>() == 48);
-const _: () = assert!(size_of::<Fitted>() == 24);
+const _: () = assert!(size_of::<Offsets>() == 24);
 
 impl Report {
-    fn of(fitted: Fitted, count: u64) -> Self {
+    fn of(fitted: Fitted) -> Self {
         Report {
-            clock_offset: fitted.clock_offset,
-            frequency_offset: fitted.frequency_offset,
-            rmse: fitted.rmse,
-            count,
+            clock_offset: fitted.offsets.clock_offset,
+            frequency_offset: fitted.offsets.frequency_offset,
+            rmse: fitted.offsets.rmse,
+            count: fitted.count,
+            approach: fitted.approach,
+            fallback: fitted.fallback != 0,
         }
     }
 }
@@ -208,8 +223,10 @@ unsafe extern "C" {
         oz: Metres,
         f0: Hertz,
         measured: Nanoseconds,
-        report: &mut Fitted,
+        report: &mut Offsets,
         count: &mut u64,
+        approach: &mut Nanoseconds,
+        fallback: &mut u8,
     ) -> u8;
     fn orbit_pass(
         instants: *const Nanoseconds,
@@ -228,8 +245,10 @@ unsafe extern "C" {
         mean_instant_count: usize,
         mean_frequencies: *mut Hertz,
         mean_frequency_count: usize,
-        report: &mut Fitted,
+        report: &mut Offsets,
         count: &mut u64,
+        approach: &mut Nanoseconds,
+        fallback: &mut u8,
     ) -> u8;
     fn orbit_read_sp3(
         bytes: *const u8,
@@ -404,7 +423,8 @@ pub fn estimate_slant_range(f0: Hertz, slope: HertzPerSecond) -> Metres {
     orbit_estimate_slant_range(f0, slope)
 }
 
-/// The fit of a recording to a satellite, about the instant of its measured approach. Refuses by 1, 2, 4, 5, 6, 7, 10.
+/// The fit of a recording to a satellite, about the instant of its measured approach, which the report repeats. Refuses by 1, 2, 4,
+/// 5, 6, 7, 10.
 pub fn fit_satellite(
     table: Table,
     recording: Recording,
@@ -414,7 +434,7 @@ pub fn fit_satellite(
 ) -> Result<Report, Refusal> {
     let (instants, positions) = (table.instants, table.positions.as_flattened());
     let (samples, frequencies) = (recording.instants, recording.frequencies);
-    let (mut fitted, mut count) = (Fitted::default(), 0);
+    let mut fitted = Fitted::default();
     // SAFETY: each pointer is to as many numbers as the count after it says.
     let number = unsafe {
         orbit_fit_satellite(
@@ -431,15 +451,17 @@ pub fn fit_satellite(
             oz,
             f0,
             measured,
-            &mut fitted,
-            &mut count,
+            &mut fitted.offsets,
+            &mut fitted.count,
+            &mut fitted.approach,
+            &mut fitted.fallback,
         )
     };
-    Refusal::or(number, Report::of(fitted, count))
+    Refusal::or(number, Report::of(fitted))
 }
 
 /// The whole pass: the means of a recording, at the front of the areas, their measured approach or else the mean at index
-/// count / 2, and the fit of the means. Refuses by 1, 2, 3, 4, 5, 6, 7, 10; under 10 the means stay written.
+/// count / 2, and the fit of the means; the report says which instant it was, and whether the latter. Refuses by 1, 2, 3, 4, 5, 6, 7, 10; under 10 the means stay written.
 pub fn pass(
     table: Table,
     recording: Recording,
@@ -449,7 +471,7 @@ pub fn pass(
 ) -> Result<Report, Refusal> {
     let (instants, positions) = (table.instants, table.positions.as_flattened());
     let (samples, frequencies) = (recording.instants, recording.frequencies);
-    let (mut fitted, mut count) = (Fitted::default(), 0);
+    let mut fitted = Fitted::default();
     // SAFETY: each pointer is to as many numbers as the count after it says; nothing overlaps the lent areas.
     let number = unsafe {
         orbit_pass(
@@ -469,11 +491,13 @@ pub fn pass(
             means.instants.len(),
             means.frequencies.as_mut_ptr(),
             means.frequencies.len(),
-            &mut fitted,
-            &mut count,
+            &mut fitted.offsets,
+            &mut fitted.count,
+            &mut fitted.approach,
+            &mut fitted.fallback,
         )
     };
-    Refusal::or(number, Report::of(fitted, count))
+    Refusal::or(number, Report::of(fitted))
 }
 
 /// The positions of one satellite in the bytes of an orbit file in SP3-c, in the file's order, at the front of the areas; their

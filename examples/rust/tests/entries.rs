@@ -179,9 +179,43 @@ fn pass_is_the_fit_of_the_means() {
         frequencies: &frequencies[..report.count as usize],
     };
     let measured = orbit::estimate_measured_pca_time(means).unwrap();
+    assert_eq!((report.approach, report.fallback), (measured, false));
     let (table, f0) = (sample.table(), sample.centre_frequency);
     let fit = orbit::fit_satellite(table, means, sample.observer, f0, measured);
     assert_eq!(fit, Ok(report));
+}
+
+#[test]
+fn middle_mean_where_nothing_falls() {
+    let few = |count: usize| {
+        let mut sample = Sample::load();
+        sample.samples.truncate(count);
+        sample.frequencies.truncate(count);
+        sample
+    };
+    let mut rising = Sample::load();
+    rising.frequencies.sort_by(|a, b| a.0.total_cmp(&b.0));
+    let mut level = Sample::load();
+    level.frequencies.fill(level.centre_frequency);
+    for (sample, count) in [(few(1), 1), (few(5), 2), (rising, 160), (level, 160)] {
+        let (answer, instants, _) = pass(&sample);
+        let report = answer.unwrap();
+        assert_eq!(report.count, count);
+        let middle = instants[count as usize / 2];
+        assert_eq!((report.approach, report.fallback), (middle, true));
+    }
+}
+
+#[test]
+fn fit_repeats_the_instant_that_it_is_given() {
+    let sample = Sample::load();
+    let (table, f0) = (sample.table(), sample.centre_frequency);
+    let row = sample.instants[MIDDLE_ROW];
+    for measured in [row, Nanoseconds(row.0 + 1), sample.samples[0]] {
+        let fit = orbit::fit_satellite(table, sample.recording(), sample.observer, f0, measured);
+        let report = fit.unwrap();
+        assert_eq!((report.approach, report.fallback), (measured, false));
+    }
 }
 
 #[test]
