@@ -2,6 +2,7 @@
 
 use crate::{faulty, of};
 use compare::calls::{Call, Entry};
+use compare::expected;
 use compare::inputs::approaches;
 use compare::inputs::passes::{self, Kind, Size};
 use compare::inputs::random::Random;
@@ -30,9 +31,19 @@ pub fn cases() -> Vec<(Entry, Call)> {
         list.extend(of(entry, calls(&mut random)));
         list.extend(faulty::calls(&mut random, entry, false));
     }
-    let approaches = approaches::KINDS.map(|kind| (kind.draw)(&mut random, SIZE));
+    let approaches = approaches::KINDS.map(|kind| reported(&mut random, kind.draw));
     list.extend(approaches.map(|call| (Entry::Pass, call)));
     list
+}
+
+/// The first pass of a kind that is not refused.
+fn reported(random: &mut Random, draw: Kind) -> Call {
+    loop {
+        let call = draw(random, SIZE);
+        if expected::answer(Entry::Pass, &call).refusal == Some(0) {
+            return call;
+        }
+    }
 }
 
 /// Known clock offsets, about half of the positions lost, then one of each kind.
