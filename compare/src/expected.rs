@@ -15,6 +15,10 @@ const NO_SLOPE: u8 = 9;
 /// The refusal where the Rust finds no usable candidate.
 const NO_CANDIDATE: u8 = 10;
 
+/// Where the words of a report have the instant that it was taken about, and the fallback.
+pub const APPROACH: usize = 4;
+pub const FALLBACK: usize = 5;
+
 /// The answer, with both areas where the entry is lent them.
 pub fn answer(entry: Entry, call: &Call) -> Answer {
     match checks::first_failing(entry, call) {

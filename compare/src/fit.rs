@@ -8,6 +8,7 @@ use crate::tally::{Tally, Total};
 use crate::timing::{Row, row, spacing};
 use compare::calls::{Call, Entry};
 use compare::checks::SAMPLES;
+use compare::expected::FALLBACK;
 use compare::inputs::approaches;
 use compare::inputs::passes::{self, Size};
 use compare::inputs::random::Random;
@@ -85,9 +86,11 @@ fn compare_approaches(total: &mut Total) {
             };
             let call = (kind.draw)(&mut random, size);
             let expected = compare_call(&mut tally, Entry::Pass, ours::pass, &call);
-            if let Some(fallback) = expected.results.last() {
-                assert!(fallback.bits() == u64::from(kind.fallback), "{}", kind.name);
-                note_slopes(&mut tally, &call, kind.fallback);
+            if let Some(fallback) = expected.results.get(FALLBACK) {
+                let slopes = approaches::slopes(&call);
+                let found = (!slopes.is_empty(), fallback.bits() == 1);
+                assert!(found == (kind.sloped, kind.fallback), "{}", kind.name);
+                note_slopes(&mut tally, &slopes, kind.fallback);
                 reported += 1;
             }
         }
@@ -97,8 +100,7 @@ fn compare_approaches(total: &mut Total) {
 }
 
 /// Counts what the slopes of a reported pass are.
-fn note_slopes(tally: &mut Tally, call: &Call, fallback: bool) {
-    let slopes = approaches::slopes(call);
+fn note_slopes(tally: &mut Tally, slopes: &[f64], fallback: bool) {
     let found = [
         ("the fallback", fallback),
         ("the fallback without a slope", slopes.is_empty()),

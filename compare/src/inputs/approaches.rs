@@ -7,10 +7,11 @@ use super::tables::SECOND;
 use crate::calls::Call;
 use crate::reference;
 
-/// A kind of recording, and whether its means have no slope below zero.
+/// A kind of recording, whether its means have slopes, and whether none of these is below zero.
 pub struct Kind {
     pub name: &'static str,
     pub draw: passes::Kind,
+    pub sloped: bool,
     pub fallback: bool,
 }
 
@@ -19,26 +20,31 @@ pub const KINDS: [Kind; 9] = [
     Kind {
         name: "one mean",
         draw: |random, size| of_few_means(random, size, 1),
+        sloped: false,
         fallback: true,
     },
     Kind {
         name: "two means",
         draw: |random, size| of_few_means(random, size, 2),
+        sloped: false,
         fallback: true,
     },
     Kind {
         name: "rising",
-        draw: passes::rising,
+        draw: rising,
+        sloped: true,
         fallback: true,
     },
     Kind {
         name: "level",
         draw: level,
+        sloped: true,
         fallback: true,
     },
     Kind {
         name: "a fall alone",
         draw: with_one_fall,
+        sloped: true,
         fallback: false,
     },
     Kind {
@@ -46,6 +52,7 @@ pub const KINDS: [Kind; 9] = [
         draw: |random, size| {
             with_infinite_means(random, size, true, &[(0, f64::MAX), (3, f64::MIN)])
         },
+        sloped: true,
         fallback: false,
     },
     Kind {
@@ -53,6 +60,7 @@ pub const KINDS: [Kind; 9] = [
         draw: |random, size| {
             with_infinite_means(random, size, true, &[(1, f64::MIN), (3, f64::MIN)])
         },
+        sloped: true,
         fallback: false,
     },
     Kind {
@@ -60,6 +68,7 @@ pub const KINDS: [Kind; 9] = [
         draw: |random, size| {
             with_infinite_means(random, size, false, &[(1, f64::MAX), (3, f64::MAX)])
         },
+        sloped: true,
         fallback: false,
     },
     Kind {
@@ -67,11 +76,12 @@ pub const KINDS: [Kind; 9] = [
         draw: |random, size| {
             with_infinite_means(random, size, true, &[(1, f64::MAX), (3, f64::MAX)])
         },
+        sloped: true,
         fallback: true,
     },
 ];
 
-/// How many means have no position at any shift, so that infinite ones among them spoil no candidate; they are the last.
+/// How many means have no position at the shifts within 60 s, so that infinite ones among them spoil none of these candidates; they are the last.
 const LOST: usize = 4;
 
 /// Samples of a pass, as many as there are, in this many seconds.
@@ -87,18 +97,24 @@ fn of_few_means(random: &mut Random, size: Size, means: i64) -> Call {
     call
 }
 
-/// The same frequency at every sample.
+/// Frequencies that rise by the second, a sample in each.
+fn rising(random: &mut Random, size: Size) -> Call {
+    let mut call = passes::known(random, size, false).0;
+    call.recording.frequencies.sort_by(f64::total_cmp);
+    call
+}
+
+/// The same frequency in every second, a sample in each.
 fn level(random: &mut Random, size: Size) -> Call {
-    let mut call = passes::in_any_order(random, size);
+    let mut call = passes::known(random, size, true).0;
     call.recording.frequencies.fill(call.centre);
     call
 }
 
-/// Rising frequencies, a sample to the second, one of which is far above the next but one: the only fall.
+/// Rising frequencies, one of which is far above the next but one: the only fall.
 fn with_one_fall(random: &mut Random, size: Size) -> Call {
-    let mut call = passes::known(random, size, false).0;
+    let mut call = rising(random, size);
     let frequencies = &mut call.recording.frequencies;
-    frequencies.sort_by(f64::total_cmp);
     let k = random.below(frequencies.len() - 2);
     frequencies[k] = frequencies[k + 2] + 1e6;
     call

@@ -13,7 +13,7 @@ use super::tables::{PRESENT, SECOND, Table};
 use crate::answers::{Answer, doubles};
 use crate::calls::{Call, Entry, Part};
 use crate::checks::{COORDINATES, SAMPLES};
-use crate::expected;
+use crate::expected::{self, APPROACH, FALLBACK};
 use crate::reference;
 use crate::words::{Word, same};
 
@@ -309,9 +309,8 @@ fn slopes(entry: Entry) -> Vec<Line> {
 
 /// Whether a report was taken about this instant, and says 1 or 0 for the fallback.
 fn taken_about(answer: &Answer, instant: i64, fallback: i64) -> bool {
-    answer
-        .results
-        .ends_with(&[instant, fallback].map(Word::Whole))
+    let words = answer.results.get(APPROACH..=FALLBACK);
+    words == Some(&[instant, fallback].map(Word::Whole))
 }
 
 /// Slant.

@@ -52,6 +52,9 @@ unsafe extern "C" {
     ) -> u8;
 }
 
+/// What stands for a yes or no that was written wider than its byte; no answer is this.
+const WIDER: i64 = -1;
+
 /// The places lent for a report: its three numbers, its count, its instant, and the yes or no, which is the first byte of eight.
 pub struct Places {
     report: [f64; 3],
@@ -71,20 +74,22 @@ impl Places {
         }
     }
 
-    /// Clock offset, frequency offset, RMSE, count, instant, and 1 or 0 for the fallback; the seven bytes behind it must be as they were.
+    /// Clock offset, frequency offset, RMSE, count, instant, and 1 or 0 for the fallback.
     fn words(&self) -> Vec<Word> {
-        let [fallback, behind @ ..] = self.fallback;
-        let marked = marked_whole().to_le_bytes();
-        let written = fallback != marked[0] && behind == marked[1..];
-        let fallback = if written {
-            i64::from(fallback)
-        } else {
-            i64::from_le_bytes(self.fallback)
-        };
         let mut words = doubles(&self.report);
-        let whole = [self.count as i64, self.approach, fallback];
+        let whole = [self.count as i64, self.approach, self.told()];
         words.extend(whole.map(Word::Whole));
         words
+    }
+
+    /// The yes or no, the marker where it is untouched, and neither where one of the seven bytes behind it was written.
+    fn told(&self) -> i64 {
+        let marked = marked_whole().to_le_bytes();
+        match self.fallback {
+            untouched if untouched == marked => marked_whole(),
+            [fallback, behind @ ..] if behind == marked[1..] => i64::from(fallback),
+            _ => WIDER,
+        }
     }
 }
 

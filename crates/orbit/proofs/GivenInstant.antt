@@ -1,5 +1,5 @@
 -- The fit entry's report repeats the instant that it was given and never says that it was the fallback: whichever shift wins, a report has its basis. Assumes nothing.
-use mathlib.Core.Path.{_≡_, sym, ap}
+use mathlib.Core.Path.{_≡_, ap}
 use mathlib.Core.Bool.{false}
 use mathlib.Core.List.{List}
 use Prim.Native.Nat.{ℕ, zero, suc}

@@ -68,7 +68,7 @@ fn fit_means(
     )
 }
 
-// Clock offset, frequency offset and RMSE of a recording, by the table; the means stay in the two areas.
+// Clock offset, frequency offset and RMSE of a recording, by the table, and the instant that they were taken about; the means stay in the two areas.
 pub fn pass(
     instants: &[i64],
     positions: &[f64],

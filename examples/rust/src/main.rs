@@ -180,18 +180,19 @@ fn print_mean(means: Recording, i: usize) {
 
 /// The date of an instant, UTC.
 fn date_of(Nanoseconds(nanoseconds): Nanoseconds) -> String {
-    let leap = |year: i64| year % 4 == 0 && (year % 100 != 0 || year % 400 == 0);
+    let is_leap = |year: i64| year % 4 == 0 && (year % 100 != 0 || year % 400 == 0);
+    let days_of = |year: i64| 365 + i64::from(is_leap(year));
     let mut days = nanoseconds.div_euclid(86_400 * SECOND);
     let mut year = 1970;
     while days < 0 {
         year -= 1;
-        days += 365 + i64::from(leap(year));
+        days += days_of(year);
     }
-    while days >= 365 + i64::from(leap(year)) {
-        days -= 365 + i64::from(leap(year));
+    while days >= days_of(year) {
+        days -= days_of(year);
         year += 1;
     }
-    let february = 28 + i64::from(leap(year));
+    let february = 28 + i64::from(is_leap(year));
     let mut month = 1;
     for length in [31, february, 31, 30, 31, 30, 31, 31, 30, 31, 30] {
         if days < length {
@@ -275,4 +276,28 @@ fn print_refusal(refusal: Refusal) {
     println!("refused by        {}", refusal.number());
     println!("what is wrong     {}", refusal.what_is_wrong());
     println!("what to do        {}", refusal.what_to_do());
+}
+
+#[cfg(test)]
+mod tests {
+    use super::{date_of, time_of_day};
+    use orbit::Nanoseconds;
+
+    #[test]
+    fn instants_before_1970_and_at_leap_days() {
+        let shown = [
+            (0, "1970-01-01 00:00:00.000000"),
+            (-1, "1969-12-31 23:59:59.999999"),
+            (-4_000_000_000_000_000_000, "1843-03-31 16:53:20.000000"),
+            (4_000_000_000_000_000_000, "2096-10-02 07:06:40.000000"),
+            (951_782_400_000_000_000, "2000-02-29 00:00:00.000000"),
+            (-2_203_891_200_000_001_000, "1900-02-28 23:59:59.999999"),
+            (-2_203_891_200_000_000_000, "1900-03-01 00:00:00.000000"),
+        ];
+        for (nanoseconds, expected) in shown {
+            let instant = Nanoseconds(nanoseconds);
+            let text = format!("{} {}", date_of(instant), time_of_day(instant));
+            assert_eq!(text, expected);
+        }
+    }
 }

@@ -461,7 +461,8 @@ pub fn fit_satellite(
 }
 
 /// The whole pass: the means of a recording, at the front of the areas, their measured approach or else the mean at index
-/// count / 2, and the fit of the means; the report says which instant it was, and whether the latter. Refuses by 1, 2, 3, 4, 5, 6, 7, 10; under 10 the means stay written.
+/// count / 2, and the fit of the means; the report says which instant it was, and whether the latter. Refuses by 1, 2, 3, 4, 5,
+/// 6, 7, 10; under 10 the means stay written.
 pub fn pass(
     table: Table,
     recording: Recording,

@@ -25,8 +25,8 @@ returns c =
     let numbers = given-as reportNumbers fit (args .report .now) found _ _ (told .0, told .1) here in
     let counted = given-as (λ (x : Report). x .count) fit (args .count .now) found _ _ (told .0, told .2) here in
     let taken = given-as (λ (x : Report). x .approach .0) fit (args .approach .now) found _ _ (told .0, told .3) here in
-    let fallen = given-as fallbackNumber fit (args .fallback .now) found _ _ (told .0, told .4) here in
-    (numbers .0, (numbers .1, (counted .1, (taken .1, fallen .1))))
+    let fallback = given-as fallbackNumber fit (args .fallback .now) found _ _ (told .0, told .4) here in
+    (numbers .0, (numbers .1, (counted .1, (taken .1, fallback .1))))
 
 pub orbit-fit-satellite-spec : {M : Type 1} → statement M
 orbit-fit-satellite-spec = tie.close (tie.spec fit-satellite-requires report-into-requires returns)

@@ -32,8 +32,8 @@ returns c =
     let numbers = given-as reportNumbers outcome (args .report .now) found _ _ (told .0, told .1) (here .0) in
     let counted = given-as (λ (x : Report). x .count) outcome (args .count .now) found _ _ (told .0, told .2) (here .0) in
     let taken = given-as (λ (x : Report). x .approach .0) outcome (args .approach .now) found _ _ (told .0, told .3) (here .0) in
-    let fallen = given-as fallbackNumber outcome (args .fallback .now) found _ _ (told .0, told .4) (here .0) in
-    (numbers .0, (numbers .1, (counted .1, (taken .1, (fallen .1, (here .1 .0, here .1 .1))))))
+    let fallback = given-as fallbackNumber outcome (args .fallback .now) found _ _ (told .0, told .4) (here .0) in
+    (numbers .0, (numbers .1, (counted .1, (taken .1, (fallback .1, (here .1 .0, here .1 .1))))))
 
 pub orbit-pass-spec : {M : Type 1} → statement M
 orbit-pass-spec =

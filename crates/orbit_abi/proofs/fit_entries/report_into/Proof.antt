@@ -26,6 +26,7 @@ by-number : (b : Bool) → boolByte b ≡ cond b 1 0
 by-number true = refl
 by-number false = refl
 
+-- that the instant fits its machine number is known of the fifth field
 returns : tie.Need-returns
 returns c =
     let args = c .before .before .before .before .before .args in
@@ -35,8 +36,8 @@ returns c =
     let numbers = answered-as reportNumbers (fitIn (args .found)) (args .report .now) (told .0 .0) _ refl here in
     let counted = answered-as (λ (x : Report). x .count) (fitIn (args .found)) (args .count .now) (told .0 .0) _ refl here in
     let taken = answered-as (λ (x : Report). x .approach .0) (fitIn (args .found)) (args .approach .now) (told .0 .0) _ (toZ-ofZ w64 t (record { sfits = c .before .struct-told .given .1 .1 .1 .1 .0 .1 .1 .0 .1 })) here in
-    let fallen = answered-as fallbackNumber (fitIn (args .found)) (args .fallback .now) (told .0 .0) _ (by-number (told .0 .0 .fallback)) here in
-    (numbers .0, numbers .1, counted .1, taken .1, fallen .1)
+    let fallback = answered-as fallbackNumber (fitIn (args .found)) (args .fallback .now) (told .0 .0) _ (by-number (told .0 .0 .fallback)) here in
+    (numbers .0, numbers .1, counted .1, taken .1, fallback .1)
 
 returns-2 : tie.Need-returns-2
 returns-2 c = search needs
