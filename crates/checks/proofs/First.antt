@@ -1,6 +1,6 @@
 -- The checks of an entry, one after the other from no refusal, give the number of the first that fails; and that is 0 exactly where every check passes, so that
 -- each is then read off by its place. Assumes nothing.
-use mathlib.Core.Path.{_≡_, refl, sym, ap₂, subst, _∙_}
+use mathlib.Core.Path.{_≡_, refl, sym, ap, ap₂, subst, _∙_}
 use mathlib.Core.Bool.{Bool, true, false, not, cond, _&&_, _||_, true≢false}
 use mathlib.Core.List.{List, [], _∷_}
 use Prim.Native.Nat.{ℕ, zero, suc}
@@ -11,6 +11,19 @@ use lib.ListN.{getD}
 use lib.Ieee.Fits.{and-l, and-r}
 use Rattle.checks.specs.Entries.{Check, check, firstFailing}
 use Rattle.checks.specs.Checked.{orElse}
+
+-- the first check fails, or it passes, or there is none
+pub first-fails : (c : Check) (cs : List Check) → c .fails ≡ true → firstFailing (c ∷ cs) ≡ c .number
+unfolding firstFailing
+first-fails c cs h = ap (λ (b : Bool). cond b (c .number) (firstFailing cs)) h
+
+pub first-passes : (c : Check) (cs : List Check) → c .fails ≡ false → firstFailing (c ∷ cs) ≡ firstFailing cs
+unfolding firstFailing
+first-passes c cs h = ap (λ (b : Bool). cond b (c .number) (firstFailing cs)) h
+
+pub none-fails : firstFailing [] ≡ 0
+unfolding firstFailing
+none-fails = refl
 
 -- no check has the number 0
 unfoldable pub numbered : List Check → Bool
@@ -78,3 +91,9 @@ never k (c ∷ cs) h e = go (c .fails) (c .number) (and-l (not (eqb (c .number) 
 pub neither : (a b : Bool) → (a || b) ≡ false → (a ≡ false) × (b ≡ false)
 neither true b h = absurd (true≢false h)
 neither false b h = (refl, h)
+
+-- where the number is 0, the first check passes, and the number of the others is 0
+pub passes-first : (n : ℕ) (b : Bool) (cs : List Check) → firstFailing (check (suc n) b ∷ cs) ≡ 0 → (b ≡ false) × (firstFailing cs ≡ 0)
+unfolding firstFailing
+passes-first n true cs e = absurd (omega arith)
+passes-first n false cs e = (refl, e)

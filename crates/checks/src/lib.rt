@@ -18,3 +18,4 @@ pub use limits::AXES;
 pub use limits::LATEST_INSTANT;
 pub use limits::MOST_COORDINATES;
 pub use limits::MOST_SAMPLES;
+pub use numbers::not_finite;

@@ -4,7 +4,7 @@ ghost use Rattle.checks.specs.Checks.{any, notFinite, noCentre};
 use float::magnitude;
 
 // A double that is not finite.
-pub(crate) fn not_finite(x: f64) -> bool
+pub fn not_finite(x: f64) -> bool
     ensures { λ r. ⌜ r ≡ notFinite x ⌝ }
 {
     !(magnitude(x) < 1.0 / 0.0)

@@ -4,4 +4,7 @@ pub mod Search
 pub mod Outcomes
 pub mod Sums
 pub mod Parts
+pub mod Integers
 pub mod Dropped
+pub mod Those
+pub mod Tests

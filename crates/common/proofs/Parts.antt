@@ -7,7 +7,7 @@ use Prim.Native.Nat.{ℕ, zero, suc, _+_, _-_, _*_, _/_, _≤_, _<_}
 use native.Mathlib.Omega.{arith}
 use lib.Dec.{T, ltb, ltb→lt, lt→ltb, leb→le, le→leb, nltb→le, leb·suc-suc}
 use lib.IntN.{ℤ, pos, negsuc, negℤ, natAbs, subℕ, _+ℤ_, _-ℤ_, _*ℤ_}
-use lib.Signed.{ltZ, leZ, quotZ}
+use lib.Signed.{ltZ, leZ, quotZ, ltZ-no}
 use mir.Syntax.{w64}
 use mir.Val.{SFits, toZ, ofZ}
 use mir.ValLaws.{toZ-ofZ}
@@ -57,6 +57,14 @@ parts-eq (negsuc a) (negsuc b) h = ap negsuc (omega arith)
 -- of two numbers in order the first is not the second
 pub lt-apart : (a b : ℤ) → T (ltZ a b) → a ≡ b → ⊥
 lt-apart a b h e = omega (arith, lt-parts a b h, ap over e, ap under e)
+
+-- what is below one that is below another is below that
+pub lt-through : (a b c : ℤ) → T (ltZ a b) → T (ltZ b c) → T (ltZ a c)
+lt-through a b c h k = parts-lt a c (omega (arith, lt-parts a b h, lt-parts b c k))
+
+-- two numbers of which neither is below the other are equal
+pub neither-lt : (a b : ℤ) → T (not (ltZ a b)) → T (not (ltZ b a)) → a ≡ b
+neither-lt a b h k = parts-eq a b (omega (arith, le-parts b a ((ltZ-no {a = a} {b = b} h) .le), le-parts a b ((ltZ-no {a = b} {b = a} k) .le)))
 
 -- ---- sums and differences
 

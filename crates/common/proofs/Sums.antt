@@ -1,4 +1,4 @@
--- The laws of a sum in order: of one list after another, and the steps of a loop that sums the front of a list, as it is or with each element mapped. Assumes nothing.
+-- The laws of a sum in order: of no element and of one more, of one list after another, and the steps of a loop that sums the front of a list, as it is or with each element mapped. Assumes nothing.
 use mathlib.Core.Path.{_≡_, refl}
 use mathlib.Core.List.{List, [], _∷_, _++_, map}
 use Prim.Native.Nat.{ℕ, suc, _+_, _-_, _≤_, _<_}
@@ -9,6 +9,15 @@ use lib.Seq.{drop-cons}
 use lib.Ieee.{Float, nan}
 use Rattle.common.specs.Rounded.{_⊕_}
 use Rattle.common.specs.Sums.{sumFrom}
+
+-- of none, and one more at the front
+pub sum-none : (a : Float) → sumFrom a [] ≡ a
+unfolding sumFrom
+sum-none a = refl
+
+pub sum-more : (a y : Float) (ys : List Float) → sumFrom a (y ∷ ys) ≡ sumFrom (a ⊕ y) ys
+unfolding sumFrom
+sum-more a y ys = refl
 
 -- the second list is summed onto the sum of the first
 pub sum-append : (a : Float) (s t : List Float) → sumFrom a (s ++ t) ≡ sumFrom (sumFrom a s) t

@@ -4,6 +4,7 @@ pub mod Outcome
 pub mod Lists
 pub mod Search
 pub mod Numbers
+pub mod Integers
 pub mod Rounded
 pub mod Sums
 pub mod Time

@@ -15,10 +15,11 @@ use mir.Val.{SFits}
 use mir.ValLaws.{toZ-ofZ}
 use Rattle.common.proofs.Parts.{within-fits, abs-parts, back}
 use Rattle.checks.specs.Limits.{farthestInstant}
-use Rattle.samples.specs.Means.{Sample, wholeSecond, eqZ, bin, recording, instants, Alike}
+use Rattle.common.specs.Integers.{eqZ}
+use Rattle.samples.specs.Means.{Sample, wholeSecond, bin, recording, instants, Alike}
 use Rattle.samples.specs.Runs.{Limited}
 use Rattle.samples.specs.Sorting.{SameBins}
-use Rattle.samples.proofs.Starts.{eq→eqZ}
+use Rattle.common.proofs.Integers.{eq→eqZ}
 use Rattle.samples.proofs.Recordings.{record-length, record-instants}
 
 -- an instant among the first n that are within the limit

@@ -13,9 +13,11 @@ use lib.ListN.{length, take}
 use Rattle.common.proofs.Parts.{over, under, Within, le-parts, parts-le, parts-lt, add-parts, minus-parts, over-quot, under-quot, over-times, under-times, within-parts, abs-parts, one-sided}
 use Rattle.checks.specs.Limits.{farthestInstant}
 use Rattle.common.specs.Time.{second, microsecond}
-use Rattle.samples.specs.Means.{Sample, wholeSecond, eqZ, bin, seconds, offsetSum, meanInstant, meanOf, means, instants, Under, Rising}
+use Rattle.common.specs.Integers.{eqZ}
+use Rattle.samples.specs.Means.{Sample, wholeSecond, bin, seconds, offsetSum, meanInstant, meanOf, means, instants, Under, Rising}
 use Rattle.samples.specs.Runs.{Limited}
-use Rattle.samples.proofs.Starts.{eqZ→eq, bounds, second-lt, whole-times, from-start}
+use Rattle.common.proofs.Integers.{eqZ→eq}
+use Rattle.samples.proofs.Starts.{bounds, second-lt, whole-times, from-start}
 use Rattle.samples.proofs.Seconds.{rising, held}
 
 -- each sample of the list lies from a to b

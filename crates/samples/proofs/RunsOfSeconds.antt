@@ -14,10 +14,11 @@ use lib.ListN.{length, getD, take, drop, take-append-drop, length-take, length-d
 use lib.Seq.{drop-drop, getD-take, getD-drop, length-take-le}
 use lib.Ieee.{Float}
 use Rattle.common.proofs.Parts.{lt-apart, le-parts, lt-parts, parts-le, parts-lt, parts-eq, add-parts}
-use Rattle.samples.specs.Means.{Sample, wholeSecond, eqZ, bin, seconds, recording}
+use Rattle.common.specs.Integers.{eqZ}
+use Rattle.samples.specs.Means.{Sample, wholeSecond, bin, seconds, recording}
 use Rattle.samples.specs.Sums.{Recorded, OneSecond}
 use Rattle.samples.specs.Runs.{secondAt, NeverFalls, Begins, Run}
-use Rattle.samples.proofs.Starts.{eqZ→eq, eq→eqZ}
+use Rattle.common.proofs.Integers.{eqZ→eq, eq→eqZ}
 use Rattle.samples.proofs.Seconds.{bin-append, rising}
 use Rattle.samples.proofs.Limits.{limited-take, limited-drop}
 use Rattle.samples.proofs.Recordings.{noSample, record-length, record-at, record-take, record-drop}

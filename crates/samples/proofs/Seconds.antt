@@ -7,19 +7,17 @@ use Prim.Native.Nat.{ℕ, suc, _≤_, _<_}
 use native.Mathlib.Omega.{arith}
 use lib.Dec.{T}
 use lib.IntN.{ℤ}
-use lib.Signed.{ltZ, _<ℤ_, ltZ-yes, ltZ-no, <ℤ-irrefl}
+use lib.Signed.{ltZ, _<ℤ_, ltZ-yes, <ℤ-irrefl}
 use lib.ListN.{length, length-map}
-use Rattle.common.proofs.Parts.{le-parts, lt-parts, parts-lt, parts-eq}
-use Rattle.samples.specs.Means.{Sample, wholeSecond, eqZ, bin, insert, seconds, meanOf, means, Alike, Under, Rising}
-use Rattle.samples.proofs.Starts.{eqZ→eq, eqZ-refl}
+use Rattle.common.proofs.Parts.{lt-through, neither-lt}
+use Rattle.common.specs.Integers.{eqZ}
+use Rattle.samples.specs.Means.{Sample, wholeSecond, bin, insert, seconds, meanOf, means, Alike, Under, Rising}
+use Rattle.common.proofs.Integers.{eqZ→eq, eqZ-refl}
 
 -- ---- the order of ℤ
 
 pub <ℤ-trans : {a b c : ℤ} → a <ℤ b → b <ℤ c → a <ℤ c
-<ℤ-trans {a} {b} {c} h k = record { lt = parts-lt a c (omega (arith, lt-parts a b (h .lt), lt-parts b c (k .lt))) }
-
-neither : (a b : ℤ) → T (not (ltZ a b)) → T (not (ltZ b a)) → a ≡ b
-neither a b h k = parts-eq a b (omega (arith, le-parts b a ((ltZ-no {a = a} {b = b} h) .le), le-parts a b ((ltZ-no {a = b} {b = a} k) .le)))
+<ℤ-trans {a} {b} {c} h k = record { lt = lt-through a b c (h .lt) (k .lt) }
 
 -- ---- what insertion does
 
@@ -27,7 +25,7 @@ neither a b h k = parts-eq a b (omega (arith, le-parts b a ((ltZ-no {a = a} {b =
 pub inserted : (s : ℤ) (l : List ℤ) → List·Memᴰ s (insert s l)
 unfolding insert
 inserted s [] = List·Memᴰ·head refl
-inserted s (t ∷ ts) = go (ltZ s t) (ltZ t s) (neither s t) (inserted s ts)
+inserted s (t ∷ ts) = go (ltZ s t) (ltZ t s) (neither-lt s t) (inserted s ts)
   where
     go : (v w : Bool) → (T (not v) → T (not w) → s ≡ t) → List·Memᴰ s (insert s ts) → List·Memᴰ s (cond v (s ∷ t ∷ ts) (cond w (t ∷ insert s ts) (t ∷ ts)))
     go true w e r = List·Memᴰ·head refl

@@ -1,9 +1,8 @@
 -- A second is the nanoseconds from its first up to the next second's first, and later instants lie in later seconds or the same. Assumes nothing.
-use mathlib.Core.Path.{_≡_, refl, sym, ap, _∙_, subst}
-use mathlib.Core.Bool.{Bool, true, false, not}
+use mathlib.Core.Path.{_≡_, sym, ap, _∙_}
 use Prim.Native.Nat.{_+_, _*_, _≤_, _<_}
 use native.Mathlib.Omega.{arith}
-use lib.Dec.{T, eqb→eq, eqb-refl}
+use lib.Dec.{T}
 use lib.IntN.{ℤ, pos, negsuc, natAbs, _+ℤ_, _*ℤ_}
 use lib.Signed.{ltZ, leZ}
 use mir.Syntax.{w64}
@@ -12,35 +11,8 @@ use mir.ValLaws.{toZ-ofZ}
 use Rattle.common.proofs.Parts.{back, over, under, le-parts, parts-le, lt-parts, parts-lt, parts-eq, add-parts, over-times, under-times, abs-parts, within-fits}
 use Rattle.checks.specs.Limits.{farthestInstant}
 use Rattle.common.specs.Time.{second}
-use Rattle.samples.specs.Means.{wholeSecond, eqZ}
+use Rattle.samples.specs.Means.{wholeSecond}
 use Rattle.samples.specs.Sums.{secondStart, StartsSecond}
-
--- ---- tests
-
-pub holds : {v : Bool} → v ≡ true → T v
-holds e = subst T (sym e) tt
-
-pub fails : {v : Bool} → v ≡ false → T (not v)
-fails e = subst (λ (v : Bool). T (not v)) (sym e) tt
-
-pub same-test : (v w : Bool) → (T v → T w) → (T w → T v) → v ≡ w
-same-test true true f g = refl
-same-test true false f g = absurd (f tt)
-same-test false true f g = absurd (g tt)
-same-test false false f g = refl
-
-pub eqZ→eq : (a b : ℤ) → T (eqZ a b) → a ≡ b
-eqZ→eq (pos a) (pos b) h = ap pos (eqb→eq a b h)
-eqZ→eq (pos a) (negsuc b) h = absurd h
-eqZ→eq (negsuc a) (pos b) h = absurd h
-eqZ→eq (negsuc a) (negsuc b) h = ap negsuc (eqb→eq a b h)
-
-pub eqZ-refl : (a : ℤ) → T (eqZ a a)
-eqZ-refl (pos a) = eqb-refl a
-eqZ-refl (negsuc a) = eqb-refl a
-
-pub eq→eqZ : (a b : ℤ) → a ≡ b → T (eqZ a b)
-eq→eqZ a b e = subst (λ (z : ℤ). T (eqZ a z)) e (eqZ-refl a)
 
 -- ---- a second's bounds, by the parts of its numbers
 

@@ -1,10 +1,9 @@
 -- `downsample_data`: "one for each second that holds a sample, seconds rising". An instant is a signed count of nanoseconds since 1970-01-01.
 use Prim.Native.Nat.{ℕ}
 use mathlib.Core.Path.{_≡_}
-use mathlib.Core.Bool.{Bool, false, cond}
+use mathlib.Core.Bool.{cond}
 use mathlib.Core.List.{List, [], _∷_, map}
-use lib.Dec.{eqb}
-use lib.IntN.{ℤ, pos, negsuc, _+ℤ_, _-ℤ_, _*ℤ_}
+use lib.IntN.{ℤ, pos, _+ℤ_, _-ℤ_, _*ℤ_}
 use lib.Signed.{_<ℤ_, ltZ, quotZ, shrZ}
 use lib.ListN.{length}
 use lib.Ieee.{Float}
@@ -13,6 +12,7 @@ use Rattle.float.specs.Conversions.{nearestOf}
 use Rattle.common.specs.Outcome.{Outcome, refused, answered, outcome, area}
 use Rattle.checks.specs.Entries.{firstFailing, meansChecks}
 use Rattle.common.specs.Numbers.{nought}
+use Rattle.common.specs.Integers.{eqZ}
 use Rattle.common.specs.Sums.{sumFrom}
 use Rattle.common.specs.Time.{second, microsecond}
 use Rattle.samples.specs.declared.means.Downsampled.{Downsampled}
@@ -40,13 +40,6 @@ frequencies S = map (λ (x : Sample). x .frequency) S
 -- "its whole second is the floor of its seconds": −1 ns lies in second −1, 0 ns in second 0
 abbrev pub wholeSecond : ℤ → ℤ
 wholeSecond t = shrZ t second
-
--- whether two whole numbers are the same
-abbrev pub eqZ : ℤ → ℤ → Bool
-eqZ (pos a) (pos b) = eqb a b
-eqZ (pos a) (negsuc b) = false
-eqZ (negsuc a) (pos b) = false
-eqZ (negsuc a) (negsuc b) = eqb a b
 
 -- the samples of the second s, in their order
 unfoldable pub bin : ℤ → List Sample → List Sample

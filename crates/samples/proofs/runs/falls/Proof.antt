@@ -11,7 +11,8 @@ use mir.ValLaws.{toZ-ofZ, sfits-le}
 use Rattle.common.proofs.Parts.{back, read-test}
 use Rattle.common.specs.Time.{second}
 use Rattle.samples.specs.Means.{wholeSecond}
-use Rattle.samples.proofs.Starts.{holds, same-test, second-le}
+use Rattle.common.proofs.Tests.{holds, same-test}
+use Rattle.samples.proofs.Starts.{second-le}
 use Rattle.samples.proofs.runs.falls.Statement.{statement}
 use Rattle.samples.proofs.runs.falls.Tie as tie
 

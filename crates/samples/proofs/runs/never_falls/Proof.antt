@@ -13,10 +13,10 @@ use lib.ListN.{length, getD}
 use mir.Syntax.{w64}
 use mir.ValLaws.{toZ-ofZ}
 use Rattle.common.proofs.Parts.{back}
+use Rattle.common.proofs.Tests.{fails}
 use Rattle.samples.specs.Means.{wholeSecond}
 use Rattle.samples.specs.Runs.{Limited, secondAt}
 use Rattle.samples.proofs.Limits.{limit-fits}
-use Rattle.samples.proofs.Starts.{fails}
 use Rattle.samples.proofs.runs.never_falls.Statement.{statement}
 use Rattle.samples.proofs.runs.never_falls.Tie as tie
 

@@ -15,11 +15,13 @@ use mir.Syntax.{w64}
 use mir.Val.{SFits}
 use mir.ValLaws.{toZ-ofZ}
 use Rattle.common.proofs.Parts.{back}
-use Rattle.samples.specs.Means.{wholeSecond, eqZ}
+use Rattle.common.specs.Integers.{eqZ}
+use Rattle.common.proofs.Tests.{holds}
+use Rattle.samples.specs.Means.{wholeSecond}
 use Rattle.samples.specs.Sums.{StartsSecond}
 use Rattle.samples.specs.Runs.{Limited, secondAt}
 use Rattle.samples.proofs.Limits.{limit-fits}
-use Rattle.samples.proofs.Starts.{holds, eqZ→eq, eq→eqZ}
+use Rattle.common.proofs.Integers.{eqZ→eq, eq→eqZ}
 use Rattle.samples.proofs.runs.run_end.Statement.{statement}
 use Rattle.samples.proofs.runs.run_end.Tie as tie
 

@@ -9,8 +9,11 @@ use mir.Val.{SFits}
 use mir.ValLaws.{toZ-ofZ}
 use Rattle.common.proofs.Parts.{back, lt-apart, read-test}
 use Rattle.common.specs.Time.{second}
-use Rattle.samples.specs.Means.{wholeSecond, eqZ}
-use Rattle.samples.proofs.Starts.{holds, fails, same-test, eqZ→eq, eq→eqZ, before-start, past-start, from-start, next-fits}
+use Rattle.common.specs.Integers.{eqZ}
+use Rattle.samples.specs.Means.{wholeSecond}
+use Rattle.common.proofs.Integers.{eqZ→eq, eq→eqZ}
+use Rattle.common.proofs.Tests.{holds, fails, same-test}
+use Rattle.samples.proofs.Starts.{before-start, past-start, from-start, next-fits}
 use Rattle.samples.proofs.sums.in_second.Statement.{statement}
 use Rattle.samples.proofs.sums.in_second.Tie as tie
 
