@@ -1,5 +1,5 @@
 -- 0 says answered: no entry's outcome is a refusal with the number 0, so a C caller reads an answer exactly where there is one. A check that fails gives
--- its own number, and 8, 9 and 10 come from their own cases; none of them is 0, nor is 11, 12 or 13 of the reader of orbit files. Assumes nothing.
+-- its own number, and 8, 9 and 10 come from their own cases; none of them is 0, nor is 11, 12 or 13 of the reader of orbit files, nor 14 or 15 of the board. Assumes nothing.
 use mathlib.Core.Path.{_≡_, refl}
 use mathlib.Core.Bool.{Bool, true, false, cond}
 use mathlib.Core.List.{List}
@@ -19,6 +19,8 @@ use Rattle.common.specs.Outcome.{Told, mapped, Outcome, refused, answered, outc
 use Rattle.checks.specs.Entries.{firstFailing, evaluationChecks, propagationChecks, closestChecks, samplesChecks, fitChecks}
 use Rattle.samples.specs.Means.{recording, means, downsampleRefusal, downsampleData}
 use Rattle.samples.specs.Approach.{noFloor, slopeFloor, leastSlope, approachOf, estimateMeasuredPcaTime, steepestSlope, noFallRefusal}
+use Rattle.board.specs.declared.entries.Entry.{Entry}
+use Rattle.board.specs.Board.{boardRefusal, boardOffset, fleetBoard}
 use Rattle.orbit.specs.declared.window.ChebyshevOrbit.{ChebyshevOrbit}
 use Rattle.orbit.specs.Window.{evenTolerance, windowStart, windowSeconds, inversionOf, modelAbout, getChebyshevModel}
 use Rattle.orbit.specs.Propagation.{motionAt, evaluate, propagateEcef}
@@ -104,3 +106,6 @@ pass-told i ts fs is hs =
 
 pub sp3-told : (bytes satellite : List ℕ) (leaps : LeapSeconds) (is : List ℤ) (ps : List Float) → Told (readSp3 bytes satellite leaps is ps)
 sp3-told bytes satellite leaps is ps = by-checks (sp3Refusal bytes satellite leaps is ps) (length (recordsOf bytes satellite leaps))
+
+pub board-told : (es : List Entry) → Told (fleetBoard es)
+board-told es = by-checks (boardRefusal es) (boardOffset es)

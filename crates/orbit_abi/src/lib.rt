@@ -1,4 +1,5 @@
 // The library as C and Rust link it (include/orbit.h). Each function is the entry of the same name, with the same promise.
+mod board_entries;
 mod chebyshev_entries;
 mod fit_entries;
 mod float_entries;
