@@ -1,6 +1,7 @@
 // The entries, each found by the number of its name: a function calls the library with what the words say, puts the answer, and says whether the
 // words were a case of the entry; where they were not, the answer means nothing.
 // One more entry is a name at the end of the list, the next number in `answer` or `answer_with_areas`, and a function.
+use crate::boards::fleet_board;
 use crate::numbers::double;
 use crate::numbers::unsigned;
 use crate::printer::print_double;
@@ -40,7 +41,7 @@ const AREA: usize = MOST_SAMPLES + 8;
 pub(crate) fn number_of(name: &[u8]) -> usize {
     let names: &[u8] =
         b"sqrt nearest truncated evaluate_chebyshev invert_matrix_10 get_chebyshev_model propagate_ecef evaluate find_pca_time \
-        downsample_data estimate_measured_pca_time steepest_slope estimate_slant_range fit_satellite pass read_sp3 ";
+        downsample_data estimate_measured_pca_time steepest_slope estimate_slant_range fit_satellite pass read_sp3 fleet_board ";
     let mut number = 0;
     let mut from = 0;
     let mut i = 0;
@@ -90,6 +91,7 @@ pub(crate) fn answer(number: usize, case: Case, wholes: &Wholes, doubles: &Doubl
             case.count == 2
         }
         13 => fit_satellite(case, wholes, doubles),
+        16 => fleet_board(case, wholes, doubles),
         _ => answer_with_areas(number, case, wholes, doubles),
     }
 }

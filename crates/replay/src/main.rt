@@ -2,6 +2,7 @@
 // A case is the name of an entry and its arguments, each after a blank as the 16 lower-case hexadecimal digits of a double's bits or of an
 // i64's two's complement; a slice is its length in such digits, and then its elements. The answer is the name and what the library answers, in
 // the same form, after a refusal's number, or 0, in decimal where the entry can refuse. A line that is no case has `bad case` at its end.
+mod boards;
 mod entries;
 mod numbers;
 mod printer;
