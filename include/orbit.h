@@ -8,13 +8,13 @@
  *
  * A table of coordinates is its instants, strictly rising, and its positions: x, y, z for each instant, in metres, earth-centred and
  * earth-fixed, so position_count is three times instant_count. A recording is its instants and as many frequencies, in hertz. Slices
- * hold bare numbers; an instant in one is a count of nanoseconds.
+ * hold bare numbers, but for that of a board, which holds its entries; an instant in one is a count of nanoseconds.
  *
  * Each unit is a type of its own with one field, so that kilometres cannot stand where metres are meant: orbit_metres m = {1500.0};
  * The library takes and gives these structs by value. An answer of several numbers is a struct of them, so that each keeps its unit.
  *
  * Refusals. The checks are made in this order, and the first that fails gives the number. Refusals 11 to 13 are of orbit_read_sp3
- * alone, which makes none of the others.
+ * alone, 14 and 15 of orbit_fleet_board alone, and neither of these two makes any of the others.
  *
  *    1  What is wrong: fewer than 10 or more than 4,096 coordinates, or not three position numbers for each instant.
  *       What to do: lend a part of the table with 10 to 4,096 coordinates, and all three numbers of each.
@@ -42,6 +42,10 @@
  *       What to do: take a file in UTC or GPS time; its line 13 says which, in columns 10 to 12.
  *   13  What is wrong: the orbit file has no position of the satellite, or a lent area is too short for them.
  *       What to do: look how the file names the satellite, such as G05; lend room for an instant and three numbers for each of its positions.
+ *   14  What is wrong: no entry on the board, or more than 64.
+ *       What to do: lend at least one entry and at most 64; of each satellite only the latest counts.
+ *   15  What is wrong: the clock offset, frequency offset or RMSE of an entry is not finite, superseded entries included.
+ *       What to do: strike out the entry, and see which boat sent it.
  */
 #ifndef ORBIT_H
 #define ORBIT_H
@@ -64,8 +68,9 @@ typedef struct { int16_t leap_seconds; } orbit_leap_seconds;
 /* A velocity, in metres for each second. */
 typedef struct { double metres_per_second; } orbit_metres_per_second;
 
-/* The most coordinates that a table may have (refusal 1), and the most samples of a recording (refusal 2). */
-enum { ORBIT_MOST_COORDINATES = 4096, ORBIT_MOST_SAMPLES = 1312 };
+/* The most coordinates that a table may have (refusal 1), the most samples of a recording (refusal 2), and the most entries of a board
+ * (refusal 14). */
+enum { ORBIT_MOST_COORDINATES = 4096, ORBIT_MOST_SAMPLES = 1312, ORBIT_MOST_ENTRIES = 64 };
 
 /* What a fit answers. The clock offset is above zero where the recorder's clock is ahead of the table's. */
 typedef struct { orbit_seconds clock_offset; orbit_hertz frequency_offset; orbit_hertz rmse; } orbit_report;
@@ -76,7 +81,18 @@ typedef struct { orbit_metres x, y, z; orbit_metres_per_second vx, vy, vz; } orb
 /* The Chebyshev model of ten coordinates: their first time and their last, and ten coefficients of each axis. */
 typedef struct { orbit_seconds t0, t9; orbit_metres cx[10], cy[10], cz[10]; } orbit_model;
 
-/* The library reads and writes these three as 3, 6 and 32 doubles, one after the other in this order: there must be no padding. */
+/* An entry of the fleet board: what one boat has of a satellite. The satellite is its number, the same on all boats; the instant is the
+ * approach that the boat's clock offset was taken about, and the other three are those of its report. */
+typedef struct {
+    uint16_t satellite;
+    orbit_nanoseconds instant;
+    orbit_seconds clock_offset;
+    orbit_hertz frequency_offset;
+    orbit_hertz rmse;
+} orbit_entry;
+
+/* The library reads and writes report, motion and model as 3, 6 and 32 doubles, one after the other in this order: there must be no
+ * padding. An entry has some behind its satellite, which may hold anything, and then four numbers of eight bytes. */
 #ifdef __cplusplus
 #define ORBIT_ASSERT static_assert
 #else
@@ -85,6 +101,7 @@ typedef struct { orbit_seconds t0, t9; orbit_metres cx[10], cy[10], cz[10]; } or
 ORBIT_ASSERT(sizeof(orbit_report) == 24, "orbit_report is three doubles");
 ORBIT_ASSERT(sizeof(orbit_motion) == 48, "orbit_motion is six doubles");
 ORBIT_ASSERT(sizeof(orbit_model) == 256, "orbit_model is 32 doubles");
+ORBIT_ASSERT(sizeof(orbit_entry) == 40 && offsetof(orbit_entry, instant) == 8, "orbit_entry is a satellite in 8 bytes and four numbers");
 #undef ORBIT_ASSERT
 
 /* The square root of x, correctly rounded. A zero gives itself, a negative number or NaN gives NaN, infinity infinity. */
@@ -162,6 +179,11 @@ uint8_t orbit_pass(const int64_t *instants, size_t instant_count, const double *
  * 11, 12, 13. */
 uint8_t orbit_read_sp3(const uint8_t *bytes, size_t byte_count, const uint8_t satellite[3], orbit_leap_seconds leap_seconds,
                        int64_t *instants, size_t instant_count, double *positions, size_t position_count, uint64_t *count);
+
+/* The clock offset of a fleet board: the mean of the clock offsets of the entries that no other supersedes, one for each satellite, summed
+ * in list order. Of the entries of one satellite the later instant supersedes; at equal instants the smaller RMSE; if that is equal too,
+ * the one nearer the front. Any instant is taken. The mean is infinite where the sum passes the range of a double. Refuses by 14, 15. */
+uint8_t orbit_fleet_board(const orbit_entry *entries, size_t entry_count, orbit_seconds *clock_offset);
 
 #ifdef __cplusplus
 }

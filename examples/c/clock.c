@@ -1,8 +1,9 @@
 /* Runs one pass of a satellite from an orbit file and the sample data of examples/data and prints what the library answers; then shows
- * a recording without an approach, and two refusals.
+ * a recording without an approach, a fleet board, and three refusals.
  * usage: clock FILE, an orbit file in SP3-c
  * Exit status 0: all was as expected. */
 #include <inttypes.h>
+#include <math.h>
 #include <stdbool.h>
 #include <stdio.h>
 #include <string.h>
@@ -26,11 +27,20 @@ static const struct { double clock_offset, frequency_offset; } known[] = {
 #include "known.inc"
 };
 
+/* Nanoseconds in a second. */
+static const int64_t second = 1000000000;
+
+/* The clock offset of the other satellite's entry that none supersedes; it is made up. */
+static const orbit_seconds other_offset = {2.36017};
+
 enum {
     LONGEST_FILE = 1 << 20, /* bytes */
     SAMPLES = sizeof recording / sizeof recording[0],
     FEW_SAMPLES = 5, /* too few for an approach: they lie in two seconds */
-    MEANS_SHOWN = 3
+    MEANS_SHOWN = 3,
+    OWN_NUMBER = 1, /* of the pass's satellite on the board, and of another */
+    OTHER_NUMBER = 2,
+    ENTRIES = 4
 };
 
 /* An orbit file. */
@@ -97,6 +107,22 @@ static uint8_t read_table(const sp3_file *file, pass_table *table)
                           &table->count);
 }
 
+/* The board's entries: that of the pass, and three that are made up. Of these the first is of the same satellite and an hour older, and the
+ * others are of another satellite, at one instant, so that the last supersedes by its RMSE. */
+static void load_board(const pass_answer *pass, orbit_entry board[ENTRIES])
+{
+    const orbit_report *report = &pass->report;
+    const orbit_nanoseconds approach = pass->approach;
+    const orbit_nanoseconds older = {approach.nanoseconds - 3600 * second}, newer = {approach.nanoseconds + 90 * second};
+    const orbit_entry entries[ENTRIES] = {
+        {OWN_NUMBER, approach, report->clock_offset, report->frequency_offset, report->rmse},
+        {OWN_NUMBER, older, {9.0}, {100.0}, {0.1}},
+        {OTHER_NUMBER, newer, {9.0}, {100.0}, {0.5}},
+        {OTHER_NUMBER, newer, other_offset, {100.0}, {0.4}},
+    };
+    memcpy(board, entries, sizeof entries);
+}
+
 /* The whole pass, of the first so many samples: 0, or the number of the refusal. */
 static uint8_t run_pass(const pass_table *table, const pass_recording *samples, size_t sample_count, pass_answer *answer)
 {
@@ -122,7 +148,6 @@ static void print_refusal(uint8_t refusal)
 /* An instant in UTC, to the microsecond, cut toward earlier: the date and the time of day, or the time of day alone. */
 static void print_instant(int64_t nanoseconds, const char *format)
 {
-    const int64_t second = 1000000000;
     const int64_t part = (nanoseconds % second + second) % second; /* ns since the second began */
     const time_t seconds = (time_t)((nanoseconds - part) / second);
     char text[32];
@@ -240,6 +265,20 @@ static bool show_few_samples(const pass_table *table, const pass_recording *samp
     return answer->fallback && answer->approach.nanoseconds == answer->mean_instants[answer->count / 2];
 }
 
+/* The clock offset of the board: the mean of the pass's and of the other satellite's. */
+static bool show_board(const orbit_entry board[ENTRIES])
+{
+    orbit_seconds offset;
+    printf("\nA fleet board of %d entries: that of the pass, and %d that are made up\n", ENTRIES, ENTRIES - 1);
+    const uint8_t refusal = orbit_fleet_board(board, ENTRIES, &offset);
+    if (refusal != 0) {
+        print_refusal(refusal);
+        return false;
+    }
+    printf("clock offset      %.5f s, the mean of one entry for each satellite\n", offset.seconds);
+    return near(offset.seconds, (board[0].clock_offset.seconds + other_offset.seconds) / 2.0, 1e-9);
+}
+
 /* A call that should be refused: whether it was, by that number, and wrote nothing. */
 static bool print_refused(uint8_t refusal, uint8_t expected, bool untouched)
 {
@@ -278,12 +317,24 @@ static bool show_commas(sp3_file *file, pass_table *table)
     return print_refused(refusal, 11, memcmp(&before, table, sizeof before) == 0);
 }
 
+/* The same board with an RMSE that is no number is refused, though its entry is superseded, and nothing is written. */
+static bool show_board_refused(orbit_entry board[ENTRIES])
+{
+    orbit_seconds offset = {-1.0}; /* a mark */
+    board[1].rmse.hertz = NAN;
+    printf("\nThe same board, the RMSE of the older entry no number\n");
+    const uint8_t refusal = orbit_fleet_board(board, ENTRIES, &offset);
+    print_refusal(refusal);
+    return refusal == 15 && offset.seconds == -1.0;
+}
+
 int main(int argc, char **argv)
 {
     static sp3_file file;
     static pass_table table;
     static pass_recording samples;
     static pass_answer answer;
+    static orbit_entry board[ENTRIES];
     if (argc != 2 || !load_file(argv[1], &file)) {
         fprintf(stderr, "usage: clock FILE, an orbit file of less than %d bytes\n", LONGEST_FILE);
         return 1;
@@ -291,8 +342,10 @@ int main(int argc, char **argv)
     load_recording(&samples);
     printf("A pass: %d samples, centre frequency %.0f Hz\n", SAMPLES, centre_frequency().hertz);
     const bool answered = show_table(argv[1], &file, &table) && show_pass(&table, &samples, &answer);
-    const bool few_answered = answered && show_few_samples(&table, &samples, &answer);
+    load_board(&answer, board);
+    const bool all_answered = answered && show_few_samples(&table, &samples, &answer) && show_board(board);
     const bool kilometres_refused = show_kilometres(&table, &samples, &answer);
     const bool commas_refused = show_commas(&file, &table);
-    return few_answered && kilometres_refused && commas_refused ? 0 : 1;
+    const bool board_refused = show_board_refused(board);
+    return all_answered && kilometres_refused && commas_refused && board_refused ? 0 : 1;
 }

@@ -1,13 +1,13 @@
 //! Runs one pass of a satellite from the sample data of examples/data and prints what the library answers; then shows a recording
-//! without an approach, and two refusals.
+//! without an approach, a fleet board, and three refusals.
 //! Prints the same lines as examples/c/clock.c. Exit status 0: all was as expected.
 
 mod data;
 
 use data::{Known, LEAP_SECONDS, ORBIT_FILE, SATELLITE, Sample};
 use orbit::{
-    Hertz, MOST_COORDINATES, MOST_SAMPLES, MeansArea, Metres, Nanoseconds, Position, Recording,
-    Refusal, Report, Seconds,
+    Entry, Hertz, MOST_COORDINATES, MOST_SAMPLES, MeansArea, Metres, Nanoseconds, Position,
+    Recording, Refusal, Report, Seconds,
 };
 use std::process::ExitCode;
 
@@ -19,6 +19,13 @@ const MEANS_SHOWN: usize = 3;
 
 /// Too few samples for an approach: they lie in two seconds.
 const FEW_SAMPLES: usize = 5;
+
+/// The number of the pass's satellite on the board, and of another.
+const OWN_NUMBER: u16 = 1;
+const OTHER_NUMBER: u16 = 2;
+
+/// The clock offset of the other satellite's entry that none supersedes; it is made up.
+const OTHER_OFFSET: Seconds = Seconds(2.36017);
 
 /// A mark for the lent areas: no pass of the sample data writes these.
 const MARK: (Nanoseconds, Hertz) = (Nanoseconds(-1), Hertz(-1.0));
@@ -74,27 +81,28 @@ impl Areas {
 }
 
 fn main() -> ExitCode {
-    let sample = Sample::load();
-    let answered = as_expected(show_pass(&sample)) && as_expected(show_few_samples(&sample));
-    let kilometres_refused = show_kilometres(sample);
-    let commas_refused = show_commas();
-    if answered && kilometres_refused && commas_refused {
+    let expected = show_all(Sample::load()).unwrap_or_else(|refusal| {
+        print_refusal(refusal);
+        false
+    });
+    if expected {
         ExitCode::SUCCESS
     } else {
         ExitCode::FAILURE
     }
 }
 
-/// Whether an answer was as expected; a refusal is not, and is printed.
-fn as_expected(answer: Result<bool, Refusal>) -> bool {
-    answer.unwrap_or_else(|refusal| {
-        print_refusal(refusal);
-        false
-    })
+/// Everything; whether all was as expected. It ends where a call is refused that should not be.
+fn show_all(sample: Sample) -> Result<bool, Refusal> {
+    let (report, found) = show_pass(&sample)?;
+    let board = board_of(&report);
+    let answered = found & show_few_samples(&sample)? & show_board(&board)?;
+    let refused = show_kilometres(sample) & show_commas() & show_board_refused(board);
+    Ok(answered & refused)
 }
 
-/// The pass of the sample data; whether it found the offsets that went into them.
-fn show_pass(sample: &Sample) -> Result<bool, Refusal> {
+/// The pass of the sample data: its report, and whether it found the offsets that went into them.
+fn show_pass(sample: &Sample) -> Result<(Report, bool), Refusal> {
     let (coordinates, samples) = (sample.instants.len(), sample.samples.len());
     println!(
         "A pass: {samples} samples, centre frequency {:.0} Hz",
@@ -108,7 +116,7 @@ fn show_pass(sample: &Sample) -> Result<bool, Refusal> {
     print_report(&report);
     print_means(means);
     print_slope_and_range(sample.centre_frequency, means)?;
-    Ok(print_known(&sample.known, &report))
+    Ok((report, print_known(&sample.known, &report)))
 }
 
 /// The pass of the first few samples shows no approach; whether it was taken about the middle mean.
@@ -123,6 +131,37 @@ fn show_few_samples(sample: &Sample) -> Result<bool, Refusal> {
     print_count_and_approach(&report);
     let middle = areas.means(&report).instants[report.count as usize / 2];
     Ok(report.fallback && report.approach == middle)
+}
+
+/// The board's entries: that of the pass, and three that are made up. Of these the first is of the same satellite and an hour older,
+/// and the others are of another satellite, at one instant, so that the last supersedes by its RMSE.
+fn board_of(report: &Report) -> [Entry; 4] {
+    let made_up = |satellite, seconds: i64, clock_offset, rmse| Entry {
+        satellite,
+        instant: Nanoseconds(report.approach.0 + seconds * SECOND),
+        clock_offset,
+        frequency_offset: Hertz(100.0),
+        rmse,
+    };
+    [
+        Entry::of(OWN_NUMBER, report),
+        made_up(OWN_NUMBER, -3600, Seconds(9.0), Hertz(0.1)),
+        made_up(OTHER_NUMBER, 90, Seconds(9.0), Hertz(0.5)),
+        made_up(OTHER_NUMBER, 90, OTHER_OFFSET, Hertz(0.4)),
+    ]
+}
+
+/// The clock offset of the board; whether it is the mean of the pass's and of the other satellite's.
+fn show_board(board: &[Entry]) -> Result<bool, Refusal> {
+    println!(
+        "\nA fleet board of {} entries: that of the pass, and {} that are made up",
+        board.len(),
+        board.len() - 1
+    );
+    let Seconds(offset) = orbit::fleet_board(board)?;
+    println!("clock offset      {offset:.5} s, the mean of one entry for each satellite");
+    let mean = (board[0].clock_offset.0 + OTHER_OFFSET.0) / 2.0;
+    Ok((offset - mean).abs() <= 1e-9)
 }
 
 /// The whole pass of a recording; the means at the front of the areas.
@@ -245,7 +284,7 @@ fn show_kilometres(mut sample: Sample) -> bool {
     println!("\nThe same pass, the table in kilometres");
     let mut areas = Areas::new();
     let refusal = run_pass(&sample, sample.recording(), &mut areas).err();
-    print_refused(refusal, Refusal::PositionBeyondLimits, areas.untouched())
+    print_refused(refusal, Refusal::PositionBeyondLimits) & print_untouched(areas.untouched())
 }
 
 /// The same file with commas for points is refused, and nothing is written.
@@ -256,20 +295,32 @@ fn show_commas() -> bool {
     let (mut instants, mut positions) = MARKED_TABLE;
     let answer = orbit::read_sp3(file, SATELLITE, LEAP_SECONDS, &mut instants, &mut positions);
     let untouched = (instants, positions) == MARKED_TABLE;
-    print_refused(answer.err(), Refusal::OrbitFileUnreadable, untouched)
+    print_refused(answer.err(), Refusal::OrbitFileUnreadable) & print_untouched(untouched)
 }
 
-/// A call that should be refused: whether it was, as expected, and wrote nothing.
-fn print_refused(refusal: Option<Refusal>, expected: Refusal, untouched: bool) -> bool {
+/// The same board with an RMSE that is no number is refused, though its entry is superseded.
+fn show_board_refused(mut board: [Entry; 4]) -> bool {
+    board[1].rmse = Hertz(f64::NAN);
+    println!("\nThe same board, the RMSE of the older entry no number");
+    print_refused(orbit::fleet_board(&board).err(), Refusal::EntryNotFinite)
+}
+
+/// A call that should be refused: whether it was, as expected.
+fn print_refused(refusal: Option<Refusal>, expected: Refusal) -> bool {
     match refusal {
         None => println!("NOT refused"),
         Some(refusal) => print_refusal(refusal),
     }
+    refusal == Some(expected)
+}
+
+/// Whether such a call wrote nothing.
+fn print_untouched(untouched: bool) -> bool {
     println!(
         "lent areas        {}",
         if untouched { "untouched" } else { "WRITTEN" }
     );
-    refusal == Some(expected) && untouched
+    untouched
 }
 
 fn print_refusal(refusal: Refusal) {

@@ -8,6 +8,8 @@ mod refusal;
 
 pub use refusal::Refusal;
 
+use std::mem::offset_of;
+
 /// A length.
 #[repr(C)]
 #[derive(Clone, Copy, Debug, Default, PartialEq, PartialOrd)]
@@ -48,6 +50,9 @@ pub const MOST_COORDINATES: usize = 4096;
 
 /// The most samples that a recording may have (refusal 2).
 pub const MOST_SAMPLES: usize = 1312;
+
+/// The most entries that a board may have (refusal 14).
+pub const MOST_ENTRIES: usize = 64;
 
 /// x, y and z, earth-centred and earth-fixed.
 pub type Position = [Metres; 3];
@@ -110,6 +115,19 @@ pub struct Motion {
     pub velocity: [MetresPerSecond; 3],
 }
 
+/// An entry of the fleet board: what one boat has of a satellite. It is `orbit_entry` of include/orbit.h.
+#[repr(C)]
+#[derive(Clone, Copy, Debug, Default, PartialEq)]
+pub struct Entry {
+    /// Its number, the same on all boats.
+    pub satellite: u16,
+    /// The approach that the boat's clock offset was taken about.
+    pub instant: Nanoseconds,
+    pub clock_offset: Seconds,
+    pub frequency_offset: Hertz,
+    pub rmse: Hertz,
+}
+
 /// The three numbers of a report as the library writes them: `orbit_report` of include/orbit.h.
 #[repr(C)]
 #[derive(Default)]
@@ -133,6 +151,9 @@ const _: () = assert!(size_of::<ChebyshevModel>() == 256);
 const _: () = assert!(size_of::<Motion>() == 48);
 const _: () = assert!(size_of::<Offsets>() == 24);
 
+// An entry has padding behind its satellite, which may hold anything, and then four numbers of eight bytes.
+const _: () = assert!(size_of::<Entry>() == 40 && offset_of!(Entry, instant) == 8);
+
 impl Report {
     fn of(fitted: Fitted) -> Self {
         Report {
@@ -142,6 +163,19 @@ impl Report {
             count: fitted.count,
             approach: fitted.approach,
             fallback: fitted.fallback != 0,
+        }
+    }
+}
+
+impl Entry {
+    /// The entry of a boat's report on this satellite.
+    pub fn of(satellite: u16, report: &Report) -> Self {
+        Entry {
+            satellite,
+            instant: report.approach,
+            clock_offset: report.clock_offset,
+            frequency_offset: report.frequency_offset,
+            rmse: report.rmse,
         }
     }
 }
@@ -260,6 +294,11 @@ unsafe extern "C" {
         positions: *mut Metres,
         position_count: usize,
         count: &mut u64,
+    ) -> u8;
+    fn orbit_fleet_board(
+        entries: *const Entry,
+        entry_count: usize,
+        clock_offset: &mut Seconds,
     ) -> u8;
 }
 
@@ -530,4 +569,15 @@ pub fn read_sp3(
         )
     };
     Refusal::or(number, count as usize)
+}
+
+/// The clock offset of a fleet board: the mean of the clock offsets of the entries that no other supersedes, one for each satellite,
+/// summed in list order. Of the entries of one satellite the later instant supersedes; at equal instants the smaller RMSE; if that is
+/// equal too, the one nearer the front. Any instant is taken. The mean is infinite where the sum passes the range of a double.
+/// Refuses by 14, 15.
+pub fn fleet_board(entries: &[Entry]) -> Result<Seconds, Refusal> {
+    let mut clock_offset = Seconds(0.0);
+    // SAFETY: the pointer is to as many entries as the count after it says.
+    let number = unsafe { orbit_fleet_board(entries.as_ptr(), entries.len(), &mut clock_offset) };
+    Refusal::or(number, clock_offset)
 }

@@ -2,8 +2,8 @@
 
 use std::fmt;
 
-/// Why the library gave no answer. The checks are made in this order; the first that fails is the refusal. The last three are
-/// of `read_sp3` alone, which makes none of the others.
+/// Why the library gave no answer. The checks are made in this order; the first that fails is the refusal. 11 to 13 are of
+/// `read_sp3` alone, 14 and 15 of `fleet_board` alone, and neither of these two makes any of the others.
 #[derive(Clone, Copy, Debug, PartialEq, Eq)]
 pub enum Refusal {
     CoordinateCount = 1,
@@ -19,6 +19,8 @@ pub enum Refusal {
     OrbitFileUnreadable = 11,
     TimeSystemNotTaken = 12,
     NoPositionOrNoRoom = 13,
+    EntryCount = 14,
+    EntryNotFinite = 15,
 }
 
 use Refusal::*;
@@ -92,6 +94,16 @@ const TEXTS: &[Text] = &[
         NoPositionOrNoRoom,
         "the orbit file has no position of the satellite, or a lent area is too short for them.",
         "look how the file names the satellite, such as G05; lend room for an instant and three numbers for each of its positions.",
+    ),
+    (
+        EntryCount,
+        "no entry on the board, or more than 64.",
+        "lend at least one entry and at most 64; of each satellite only the latest counts.",
+    ),
+    (
+        EntryNotFinite,
+        "the clock offset, frequency offset or RMSE of an entry is not finite, superseded entries included.",
+        "strike out the entry, and see which boat sent it.",
     ),
 ];
 

@@ -5,8 +5,9 @@ mod data;
 
 use data::{LEAP_SECONDS, ORBIT_FILE, SATELLITE, Sample};
 use orbit::{
-    Hertz, HertzPerSecond, LeapSeconds, MOST_COORDINATES, MOST_SAMPLES, MeansArea, Metres,
-    MetresPerSecond, Nanoseconds, Position, Recording, Refusal, Report, Seconds, Table,
+    Entry, Hertz, HertzPerSecond, LeapSeconds, MOST_COORDINATES, MOST_ENTRIES, MOST_SAMPLES,
+    MeansArea, Metres, MetresPerSecond, Nanoseconds, Position, Recording, Refusal, Report, Seconds,
+    Table,
 };
 
 const SECOND: i64 = 1_000_000_000;
@@ -80,6 +81,36 @@ fn refusal_of_file(file: &[u8], satellite: [u8; 3], room: (usize, usize)) -> Ref
     assert!(instants.iter().all(|&instant| instant == MARK.0));
     assert!(positions.iter().all(|&position| position == MARK.1));
     answer.unwrap_err()
+}
+
+// SAFETY: the signature of include/orbit.h. The wrapper lends a place of its own, so that only here one sees what a refusal leaves in it.
+unsafe extern "C" {
+    fn orbit_fleet_board(
+        entries: *const Entry,
+        entry_count: usize,
+        clock_offset: &mut Seconds,
+    ) -> u8;
+}
+
+/// An entry by its satellite, instant, RMSE and clock offset.
+fn entry(satellite: u16, instant: i64, rmse: f64, clock_offset: f64) -> Entry {
+    Entry {
+        satellite,
+        instant: Nanoseconds(instant),
+        clock_offset: Seconds(clock_offset),
+        frequency_offset: Hertz(100.0),
+        rmse: Hertz(rmse),
+    }
+}
+
+/// The clock offset of a board.
+fn offset_of(entries: &[Entry]) -> f64 {
+    orbit::fleet_board(entries).unwrap().0
+}
+
+/// So many entries, each of another satellite, with the clock offset 1 s.
+fn all_different(count: usize) -> Vec<Entry> {
+    (0..count).map(|k| entry(k as u16, 0, 0.5, 1.0)).collect()
 }
 
 fn identity() -> orbit::Matrix {
@@ -306,6 +337,100 @@ fn other_refusals_of_the_orbit_file() {
     ];
     assert_eq!(refused, [Refusal::NoPositionOrNoRoom; 3]);
     assert_eq!(refused[0].number(), 13);
+}
+
+#[test]
+fn board_of_a_report() {
+    let report = pass(&Sample::load()).0.unwrap();
+    let own = Entry::of(7, &report);
+    assert_eq!((own.satellite, own.instant), (7, report.approach));
+    assert_eq!(own.clock_offset, report.clock_offset);
+    assert_eq!(own.frequency_offset, report.frequency_offset);
+    assert_eq!(own.rmse, report.rmse);
+    assert_eq!(orbit::fleet_board(&[own]), Ok(report.clock_offset));
+}
+
+#[test]
+fn one_entry_of_a_satellite_counts() {
+    let now = FIRST_SECOND * SECOND;
+    let later = [entry(1, now, 0.1, 1.0), entry(1, now + 1, 0.9, 2.0)];
+    let smaller = [entry(2, 5, 0.9, 4.0), entry(2, 5, 0.1, 8.0)];
+    let front = [entry(3, 5, -0.0, 16.0), entry(3, 5, 0.0, 32.0)];
+    let ends = [
+        entry(4, i64::MIN, 0.1, 64.0),
+        entry(4, i64::MAX, 0.9, 128.0),
+    ];
+    let survivors = [(later, 2.0), (smaller, 8.0), (front, 16.0), (ends, 128.0)];
+    for ([a, b], survivor) in survivors {
+        assert_eq!(offset_of(&[a, b]), survivor);
+    }
+    assert_eq!(offset_of(&[front[1], front[0]]), 32.0);
+    let all: Vec<Entry> = survivors.iter().flat_map(|(two, _)| *two).collect();
+    assert_eq!(offset_of(&all), (2.0 + 8.0 + 16.0 + 128.0) / 4.0);
+    let last = entry(u16::MAX, 0, 0.5, 2.0);
+    assert_eq!(offset_of(&[all_different(1)[0], last]), 1.5);
+}
+
+#[test]
+fn offsets_are_summed_in_list_order() {
+    let board = |offsets: &[f64]| -> Vec<Entry> {
+        let numbered = offsets.iter().zip(0..);
+        numbered.map(|(&x, k)| entry(k, 0, 0.5, x)).collect()
+    };
+    assert_eq!(offset_of(&board(&[1e16, 1.0, -1e16])), 0.0);
+    assert_eq!(offset_of(&board(&[1e16, -1e16, 1.0])), 1.0 / 3.0);
+    assert_eq!(
+        offset_of(&board(&[f64::MAX, -f64::MAX, f64::MAX])),
+        f64::MAX / 3.0
+    );
+    assert_eq!(
+        offset_of(&board(&[f64::MAX, f64::MAX, -f64::MAX])),
+        f64::INFINITY
+    );
+    assert!(offset_of(&board(&[-0.0, -0.0])).is_sign_positive());
+}
+
+#[test]
+fn the_most_entries_pass_and_one_more_is_refused() {
+    assert_eq!(offset_of(&all_different(MOST_ENTRIES)), 1.0);
+    let mut more = all_different(MOST_ENTRIES + 1);
+    more[3].rmse = Hertz(f64::NAN);
+    for entries in [&[], &more[..]] {
+        let refusal = orbit::fleet_board(entries).unwrap_err();
+        assert_eq!((refusal, refusal.number()), (Refusal::EntryCount, 14));
+    }
+}
+
+#[test]
+fn entries_that_are_not_finite() {
+    let spoils: [fn(&mut Entry, f64); 3] = [
+        |entry, x| entry.clock_offset = Seconds(x),
+        |entry, x| entry.frequency_offset = Hertz(x),
+        |entry, x| entry.rmse = Hertz(x),
+    ];
+    for spoil in spoils {
+        for x in [f64::NAN, f64::INFINITY, f64::NEG_INFINITY] {
+            for k in 0..3 {
+                let mut board = [6, 5, 7].map(|instant| entry(1, instant, 0.5, 1.0));
+                spoil(&mut board[k], x);
+                let refusal = orbit::fleet_board(&board).unwrap_err();
+                assert_eq!((refusal, refusal.number()), (Refusal::EntryNotFinite, 15));
+            }
+        }
+    }
+}
+
+#[test]
+fn a_refused_board_writes_nothing() {
+    let infinite = [entry(1, 0, 0.5, f64::INFINITY)];
+    let more = all_different(MOST_ENTRIES + 1);
+    for (entries, number) in [(&[][..], 14), (&more, 14), (&infinite, 15)] {
+        let mut clock_offset = Seconds(7.0);
+        // SAFETY: the pointer is to as many entries as the count after it says.
+        let refusal =
+            unsafe { orbit_fleet_board(entries.as_ptr(), entries.len(), &mut clock_offset) };
+        assert_eq!((refusal, clock_offset), (number, Seconds(7.0)));
+    }
 }
 
 #[test]
