@@ -18,7 +18,9 @@ const SHOWN: usize = 100;
 pub fn compare(tally: &mut Tally, entry: Entry, ours: Ours, call: &Call) -> Answer {
     let answer = ours(call);
     let expected = expected::answer(entry, call);
-    tally.record(answer == expected, || tell(entry, call, &answer, &expected));
+    tally.record(answer == expected, || {
+        tell(&call.arguments(entry), &answer, &expected)
+    });
     match expected.refusal {
         Some(number) if number != 0 => tally.note(format!("refused by {number}")),
         _ if expected.has_nan() => tally.note("with a NaN"),
@@ -27,13 +29,13 @@ pub fn compare(tally: &mut Tally, entry: Entry, ours: Ours, call: &Call) -> Answ
     expected
 }
 
-/// The call and both answers, and which word of them is the first that differs.
-fn tell(entry: Entry, call: &Call, answer: &Answer, expected: &Answer) -> String {
+/// The arguments of a call and both answers, and which word of them is the first that differs.
+pub fn tell(arguments: &[String], answer: &Answer, expected: &Answer) -> String {
     let (ours, theirs) = (answer.words(), expected.words());
     let equal = ours.iter().zip(&theirs).take_while(|(a, b)| a == b);
     format!(
         "{}:\n  ours     {},\n  expected {},\n  the first {} words are equal",
-        shown(&call.arguments(entry)),
+        shown(arguments),
         shown(&ours),
         shown(&theirs),
         equal.count()

@@ -1,6 +1,7 @@
 //! The inputs that both sides are given: a random stream, and for each kind of argument its edges.
 
 pub mod approaches;
+pub mod boards;
 pub mod closest;
 pub mod doubles;
 pub mod faults;

@@ -7,13 +7,16 @@
         feature = "approach",
         feature = "means",
         feature = "fit",
-        feature = "sp3"
+        feature = "sp3",
+        feature = "board"
     )),
     allow(dead_code)
 )]
 
 #[cfg(feature = "approach")]
 mod approach;
+#[cfg(feature = "board")]
+mod board;
 #[cfg(feature = "numbers")]
 mod chebyshev;
 mod driver;
@@ -55,6 +58,8 @@ const GROUPS: &[Group] = &[
     (fit::compare, fit::time),
     #[cfg(feature = "sp3")]
     (sp3::compare, sp3::time),
+    #[cfg(feature = "board")]
+    (board::compare, board::time),
 ];
 
 /// Compares all groups and times them; with `--times` it only times them, and compares nothing.

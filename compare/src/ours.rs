@@ -4,6 +4,8 @@
 pub mod approach;
 #[cfg(any(feature = "means", feature = "fit", feature = "sp3"))]
 mod areas;
+#[cfg(feature = "board")]
+pub mod board;
 #[cfg(feature = "fit")]
 pub mod fit;
 #[cfg(feature = "means")]

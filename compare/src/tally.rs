@@ -57,6 +57,20 @@ impl Tally {
         *self.notes.entry(what.into()).or_default() += 1;
     }
 
+    /// The same where this holds.
+    pub fn note_if(&mut self, what: &str, holds: bool) {
+        if holds {
+            self.note(what);
+        }
+    }
+
+    /// Stops the judge where one of these was never noted: the inputs no longer reach what they should.
+    pub fn must_have_noted(&self, all: &[&str]) {
+        for &what in all {
+            assert!(self.notes.contains_key(what), "{}: no {what}", self.name);
+        }
+    }
+
     /// Prints the counts, and adds them to those of the whole run.
     pub fn finish(self, whole: &mut Total) {
         let notes = self.notes.iter();

@@ -72,7 +72,8 @@ pub fn spacing(uneven: bool) -> &'static str {
 /// The bar for ours over the Rust's: none for what has a hardware instruction on the Rust's side alone, or no Rust side.
 fn bar(name: &str) -> Option<f64> {
     let starts = |word: &str| name.starts_with(word);
-    if starts("sqrt") || starts("nearest") || starts("truncated") || starts("its checks") {
+    let unbarred = ["sqrt", "nearest", "truncated", "its checks", "fleet_board"];
+    if unbarred.into_iter().any(starts) {
         None
     } else if starts("read_sp3") {
         name.contains("a day").then_some(0.3)

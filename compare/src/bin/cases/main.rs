@@ -1,7 +1,9 @@
-//! Writes the stored list of cases of the program `replay`; every expected answer is the Rust's, or a refusal of the paper's.
+//! Writes the stored list of cases of the program `replay`; every expected answer is the Rust's, or a refusal of the paper's, and of orbit files and
+//! boards that of the judge's own reader and board.
 //!
 //! Our library is not linked here. usage: cases FOLDER, which gets the files stdin and stdout.
 
+mod board;
 mod faulty;
 mod fit;
 mod numbers;
@@ -9,10 +11,12 @@ mod orbit;
 mod samples;
 mod sp3;
 
+use compare::boards::{self, BoardEntry};
 use compare::calls::{Call, Entry};
 use compare::description;
 use compare::expected;
 use compare::files::FileCall;
+use compare::fleet;
 use compare::inputs::matrices::Matrix;
 use compare::inputs::paper;
 use compare::inputs::polynomials::Polynomial;
@@ -31,6 +35,7 @@ enum Case {
     InvertMatrix10(Box<Matrix>),
     Of(Entry, Box<Call>),
     ReadSp3(FileCall),
+    FleetBoard(Vec<BoardEntry>),
 }
 
 impl Case {
@@ -44,6 +49,7 @@ impl Case {
             Case::InvertMatrix10(_) => "invert_matrix_10",
             Case::Of(entry, _) => entry.name(),
             Case::ReadSp3(_) => "read_sp3",
+            Case::FleetBoard(_) => "fleet_board",
         }
     }
 
@@ -59,6 +65,7 @@ impl Case {
             Case::InvertMatrix10(rows) => rows.as_flattened().iter().map(|&x| hex(x)).collect(),
             Case::Of(entry, call) => call.arguments(*entry),
             Case::ReadSp3(call) => call.arguments(),
+            Case::FleetBoard(entries) => boards::arguments(entries),
         }
     }
 
@@ -75,6 +82,7 @@ impl Case {
             Case::InvertMatrix10(rows) => inverse_answers(reference::inverse(rows)),
             Case::Of(entry, call) => expected::answer(*entry, call).words(),
             Case::ReadSp3(call) => description::answer(call).words(),
+            Case::FleetBoard(entries) => fleet::answer(entries).words(),
         }
     }
 }
@@ -119,6 +127,7 @@ fn all_cases() -> Vec<Case> {
     let calls = calls.flatten();
     cases.extend(calls.map(|(entry, call)| Case::Of(entry, Box::new(call))));
     cases.extend(sp3::cases().into_iter().map(Case::ReadSp3));
+    cases.extend(board::cases().into_iter().map(Case::FleetBoard));
     cases
 }
 
