@@ -27,7 +27,8 @@ entry s t offset rmse = record {
   rmse = record { 0 = rmse };
 }
 
--- of one satellite: the later instant, in front or behind, whatever the RMSE; at equal instants the smaller RMSE; if that is equal too, as both zeros are, the front
+-- of one satellite: the later instant, in front or behind, whatever the RMSE; at equal instants the smaller RMSE; if that is equal too, as both zeros
+-- are, the one in front
 pub supersededCases : (fleetBoard (entry 5 (negsuc 0) one one ∷ entry 5 (pos 0) two five ∷ []) ≡ answered two)
     × (fleetBoard (entry 5 (pos 0) two five ∷ entry 5 (negsuc 0) one one ∷ []) ≡ answered two)
     × (fleetBoard (entry 5 (pos 0) one five ∷ entry 5 (pos 0) two one ∷ []) ≡ answered two)

@@ -9,8 +9,8 @@ use crate::superseding::Placed;
 use crate::superseding::supersedes;
 use units::Seconds;
 
-// The place of the entry that is judged; the place that it is compared with next; of the entries before it the sum of the survivors' clock offsets, how many survive,
-// and whether a double of any is not finite.
+// The place of the entry that is judged, and the place that it is compared with next; of the entries before it the sum of the survivors' clock offsets, how
+// many survive, and whether a double of any is not finite.
 pub(crate) struct Tally {
     pub(crate) judged: usize,
     pub(crate) against: usize,
