@@ -43,9 +43,9 @@
  *   13  What is wrong: the orbit file has no position of the satellite, or a lent area is too short for them.
  *       What to do: look how the file names the satellite, such as G05; lend room for an instant and three numbers for each of its positions.
  *   14  What is wrong: no entry on the board, or more than 64.
- *       What to do: lend at least one entry and at most 64; of each satellite only the latest counts.
+ *       What to do: lend at least one entry and at most 64; of each satellite the latest is enough.
  *   15  What is wrong: the clock offset, frequency offset or RMSE of an entry is not finite, superseded entries included.
- *       What to do: strike out the entry, and see which boat sent it.
+ *       What to do: find the entry that holds it, and strike it out.
  */
 #ifndef ORBIT_H
 #define ORBIT_H
@@ -182,7 +182,8 @@ uint8_t orbit_read_sp3(const uint8_t *bytes, size_t byte_count, const uint8_t sa
 
 /* The clock offset of a fleet board: the mean of the clock offsets of the entries that no other supersedes, one for each satellite, summed
  * in list order. Of the entries of one satellite the later instant supersedes; at equal instants the smaller RMSE; if that is equal too,
- * the one nearer the front. Any instant is taken. The mean is infinite where the sum passes the range of a double. Refuses by 14, 15. */
+ * the one nearer the front. Any instant is taken. The mean is infinite where the sum, at any step, passes the range of a double. Refuses
+ * by 14, 15. */
 uint8_t orbit_fleet_board(const orbit_entry *entries, size_t entry_count, orbit_seconds *clock_offset);
 
 #ifdef __cplusplus

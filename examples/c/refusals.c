@@ -38,9 +38,9 @@ static const refusal_text texts[] = {
     {13, "the orbit file has no position of the satellite, or a lent area is too short for them.",
      "look how the file names the satellite, such as G05; lend room for an instant and three numbers for each of its positions."},
     {14, "no entry on the board, or more than 64.",
-     "lend at least one entry and at most 64; of each satellite only the latest counts."},
+     "lend at least one entry and at most 64; of each satellite the latest is enough."},
     {15, "the clock offset, frequency offset or RMSE of an entry is not finite, superseded entries included.",
-     "strike out the entry, and see which boat sent it."},
+     "find the entry that holds it, and strike it out."},
 };
 
 static const refusal_text unknown = {0, "the library has no such refusal.", "look whether the library and refusals.c belong together."};

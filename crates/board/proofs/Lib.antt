@@ -6,4 +6,5 @@ mod Survivors
 mod Counts
 mod TakenOut
 mod Refusals
+mod Answers
 mod Tallies

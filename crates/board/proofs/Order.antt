@@ -152,6 +152,10 @@ through p q r h k =
     rmse-through : T (byRmse p q) → T (byRmse q r) → T (byRmse p r)
     rmse-through = goes-through smallerRmse sameRmse nearerFront rmses p q r place-through
 
+-- of two, not both supersede the other
+pub not-both : (p q : Placed) → T (supersedes p q) → T (not (supersedes q p))
+not-both p q h = not-T (supersedes q p) (λ k. T-not (supersedes p p) (never-itself p) (through p q p h k))
+
 -- the RMSE of an entry whose doubles are finite is a number
 number-of : (e : Entry) → T (not (entryNotFinite e)) → T (number (e .rmse .0))
 number-of e h =

@@ -56,7 +56,7 @@ unfolding placedFrom
 place-from p k [] m = absurd (List·Memᴰ·not-nil m)
 place-from p k (e ∷ es) m = go (List·Memᴰ·cases-cons m) (place-from p (k + 1) es)
   where
-    go : (p ≡ record { place = k; entry = e }) ⊎ List·Memᴰ p (placedFrom (k + 1) es) → (List·Memᴰ p (placedFrom (k + 1) es) → k + 1 ≤ p .place) → k ≤ p .place
+    go : (p ≡ at k e) ⊎ List·Memᴰ p (placedFrom (k + 1) es) → (List·Memᴰ p (placedFrom (k + 1) es) → k + 1 ≤ p .place) → k ≤ p .place
     go (inl c) r = omega (arith, ap (λ (q : Placed). q .place) c)
     go (inr n) r = omega (arith, r n)
 
@@ -77,7 +77,7 @@ one-or-none P k (e ∷ es) f =
     ∙ ap (λ (b : Bool). cond {A = ℕ} b 1 0) (sym (any-one P x xs))
   where
     x : Placed
-    x = record { place = k; entry = e }
+    x = at k e
 
     xs : List Placed
     xs = placedFrom (k + 1) es
@@ -95,4 +95,4 @@ one-or-none P k (e ∷ es) f =
 pub placed-append : (k n : ℕ) (es ds : List Entry) → k + length es ≡ n → placedFrom k (es ++ ds) ≡ placedFrom k es ++ placedFrom n ds
 unfolding placedFrom
 placed-append k n [] ds h = ap (λ (m : ℕ). placedFrom m ds) (omega arith)
-placed-append k n (e ∷ es) ds h = ap {B = List Placed} (λ r. record { place = k; entry = e } ∷ r) (placed-append (k + 1) n es ds (omega arith))
+placed-append k n (e ∷ es) ds h = ap {B = List Placed} (λ r. at k e ∷ r) (placed-append (k + 1) n es ds (omega arith))

@@ -12,7 +12,7 @@ use Rattle.checks.specs.Checks.{any}
 use Rattle.checks.proofs.Anys.{any-empty, any-one, any-is, is-any, none-is, is-none}
 use Rattle.board.specs.declared.entries.Entry.{Entry}
 use Rattle.board.specs.declared.superseding.Placed.{Placed}
-use Rattle.board.specs.Superseding.{placed, supersedes, supersededIn}
+use Rattle.board.specs.Superseding.{placed, supersedes, survives}
 use Rattle.board.specs.Board.{entryNotFinite}
 use Rattle.board.specs.Rules.{ofSatellite}
 use Rattle.common.proofs.Tests.{same-test}
@@ -71,29 +71,29 @@ found s (x ∷ ps) h = go (ofSatellite s x) (any (ofSatellite s) ps) (λ t. t) (
 
 -- p stands for the satellite s: it is of it, and none of the list supersedes it
 abbrev pub stands : List Placed → ℕ → Placed → Bool
-stands ps s p = not (supersededIn ps p) && ofSatellite s p
+stands ps s p = survives ps p && ofSatellite s p
 
 -- one stands for a satellite exactly where one is of it
 pub some-stands : (ps : List Placed) (s : ℕ) → any (stands ps s) ps ≡ any (ofSatellite s) ps
 some-stands ps s = same-test (any (stands ps s) ps) (any (ofSatellite s) ps) (λ h. back (any-is (stands ps s) ps h)) (λ h. forth (found s ps h))
   where
     back : (p : Placed) × List·Memᴰ p ps × T (stands ps s p) → T (any (ofSatellite s) ps)
-    back r = is-any (ofSatellite s) (r .0) ps (r .1) (and-r (not (supersededIn ps (r .0))) (ofSatellite s (r .0)) (r .2))
+    back r = is-any (ofSatellite s) (r .0) ps (r .1) (and-r (survives ps (r .0)) (ofSatellite s (r .0)) (r .2))
 
     forth : Unbeaten s ps → T (any (stands ps s) ps)
     forth u =
         is-any (stands ps s) (u .one) ps (u .among)
-        (and-i (not (supersededIn ps (u .one))) (ofSatellite s (u .one))
+        (and-i (survives ps (u .one)) (ofSatellite s (u .one))
         (is-none (λ q. supersedes q (u .one)) ps (λ q m. not-T (supersedes q (u .one)) (u .unbeaten q m))) (eq→eqb (u .of-it)))
 
 module _ (es : List Entry) (f : T (not (any entryNotFinite es))) where
   -- the doubles of each entry are finite
-  finite : (p : Placed) → List·Memᴰ p (placed es) → T (not (entryNotFinite (p .entry)))
-  finite p m = none-is (λ (q : Placed). entryNotFinite (q .entry)) p (placed es) (subst (λ (b : Bool). T (not b)) (sym (any-placed entryNotFinite 0 es)) f) m
+  pub finite-at : (p : Placed) → List·Memᴰ p (placed es) → T (not (entryNotFinite (p .entry)))
+  finite-at p m = none-is (λ (q : Placed). entryNotFinite (q .entry)) p (placed es) (subst (λ (b : Bool). T (not b)) (sym (any-placed entryNotFinite 0 es)) f) m
 
   -- no two places of one satellite survive
   one-place : (p q : Placed) → List·Memᴰ p (placed es) → List·Memᴰ q (placed es) → p .entry .satellite ≡ q .entry .satellite
-      → T (not (supersededIn (placed es) p)) → T (not (supersededIn (placed es) q)) → p .place ≡ q .place
+      → T (survives (placed es) p) → T (survives (placed es) q) → p .place ≡ q .place
   one-place p q m n e h k = eqb→eq (p .place) (q .place) (go (eqb (p .place) (q .place)) (λ c. eq→eqb c))
     where
       clash : T (supersedes p q) ⊎ T (supersedes q p) → ⊥
@@ -102,14 +102,11 @@ module _ (es : List Entry) (f : T (not (any entryNotFinite es))) where
 
       go : (v : Bool) → (p .place ≡ q .place → T v) → T v
       go true c = tt
-      go false c = clash (either p q e (finite p m) (finite q n) c)
+      go false c = clash (either p q e (finite-at p m) (finite-at q n) c)
 
   -- nor two that stand for it
   pub stands-once : (s : ℕ) (p q : Placed) → List·Memᴰ p (placed es) → List·Memᴰ q (placed es) → T (stands (placed es) s p) → T (stands (placed es) s q) → p .place ≡ q .place
-  stands-once s p q m n h k = one-place p q m n (of-it p h ∙ sym (of-it q k)) (survives p h) (survives q k)
+  stands-once s p q m n h k = one-place p q m n (of-it p h ∙ sym (of-it q k)) (and-l (survives (placed es) p) (ofSatellite s p) h) (and-l (survives (placed es) q) (ofSatellite s q) k)
     where
-      survives : (p : Placed) → T (stands (placed es) s p) → T (not (supersededIn (placed es) p))
-      survives p h = and-l (not (supersededIn (placed es) p)) (ofSatellite s p) h
-
       of-it : (p : Placed) → T (stands (placed es) s p) → p .entry .satellite ≡ s
-      of-it p h = eqb→eq (p .entry .satellite) s (and-r (not (supersededIn (placed es) p)) (ofSatellite s p) h)
+      of-it p h = eqb→eq (p .entry .satellite) s (and-r (survives (placed es) p) (ofSatellite s p) h)

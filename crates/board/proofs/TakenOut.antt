@@ -6,8 +6,8 @@ use mathlib.Core.Logic.{_⊎_, inl, inr}
 use mathlib.Core.Bool.{Bool, true, false, not, cond}
 use mathlib.Core.List.{List, [], _∷_, _++_, map, map-map, map-append, List·Memᴰ, List·Memᴰ·tail, List·Memᴰ·not-nil, List·Memᴰ·cases-cons, List·Memᴰ·append-cases, Memᴰ·append-left, Memᴰ·append-right}
 use native.Mathlib.Omega.{arith}
-use borrow.Author.Tests.{ltb-false, lt-ltb, le-ltb, ne-eqb}
-use lib.Dec.{T, T-not, eqb, ltb, ltb→lt, lt→ltb, nltb→le}
+use borrow.Author.Tests.{lt-ltb, le-ltb}
+use lib.Dec.{T, T-not, ltb, ltb→lt, lt→ltb, nltb→le}
 use lib.ListN.{length, length-map, length-append}
 use lib.IntN.{pos}
 use lib.Ieee.{Float}
@@ -18,17 +18,16 @@ use Rattle.common.specs.Sums.{sumFrom}
 use Rattle.float.specs.Conversions.{nearestOf}
 use Rattle.common.specs.Lists.{those}
 use Rattle.checks.specs.Checks.{any}
-use Rattle.checks.specs.Entries.{check, firstFailing}
-use Rattle.checks.proofs.First.{passes-first, neither}
 use Rattle.common.proofs.Those.{those-no, those-append, those-map}
 use Rattle.common.proofs.Tests.{same-test}
 use Rattle.checks.proofs.Anys.{any-is, is-any, any-among, any-map}
 use Rattle.board.specs.declared.entries.Entry.{Entry}
 use Rattle.board.specs.declared.superseding.Placed.{Placed}
-use Rattle.board.specs.Superseding.{placed, placedFrom, supersedes, supersededIn, survivorsOf, survivors}
-use Rattle.board.specs.Board.{clockOffsets, mostEntries, entriesMiscounted, entryNotFinite, boardOffset, boardRefusal}
+use Rattle.board.specs.Superseding.{placed, placedFrom, supersedes, supersededIn, survives, survivorsOf, survivors}
+use Rattle.board.specs.Board.{clockOffset, clockOffsets, mostEntries, entryNotFinite, boardOffset, boardRefusal}
 use Rattle.board.proofs.Order.{never-itself, through}
-use Rattle.board.proofs.Places.{placed-append}
+use Rattle.board.proofs.Places.{at, placed-append}
+use Rattle.board.proofs.Refusals.{passed-checks, no-refusal}
 
 -- ---- a list with one element more in its middle
 
@@ -84,13 +83,10 @@ module _ (xs ys : List Placed) (x : Placed) (h : T (supersededIn (xs ++ x ∷ ys
   -- so the same survive
   pub same-survivors : survivorsOf (xs ++ x ∷ ys) ≡ survivorsOf (xs ++ ys)
   same-survivors =
-      those-append stays xs (x ∷ ys)
-      ∙ ap (λ (l : List Placed). those stays xs ++ l) (those-no stays x ys (ap not (is-true (supersededIn (xs ++ x ∷ ys) x) h)))
-      ∙ sym (those-append stays xs ys)
+      those-append (survives (xs ++ x ∷ ys)) xs (x ∷ ys)
+      ∙ ap (λ (l : List Placed). those (survives (xs ++ x ∷ ys)) xs ++ l) (those-no (survives (xs ++ x ∷ ys)) x ys (ap not (is-true (supersededIn (xs ++ x ∷ ys) x) h)))
+      ∙ sym (those-append (survives (xs ++ x ∷ ys)) xs ys)
       ∙ ap (λ (t : Placed → Bool). those t (xs ++ ys)) (fun-ext (λ p. ap not (same-superseded p)))
-    where
-      stays : Placed → Bool
-      stays p = not (supersededIn (xs ++ x ∷ ys) p)
 
 -- ---- other places in the same order
 
@@ -107,7 +103,7 @@ module _ (f : ℕ → ℕ) (order : (a b : ℕ) → ltb (f a) (f b) ≡ ltb a b)
   -- so the same survive
   moved-survivors : (ps : List Placed) → survivorsOf (map (moved f) ps) ≡ map (moved f) (survivorsOf ps)
   moved-survivors ps =
-      those-map (λ p. not (supersededIn (map (moved f) ps) p)) (moved f) ps
+      those-map (survives (map (moved f) ps)) (moved f) ps
       ∙ ap (λ (t : Placed → Bool). map (moved f) (those t ps)) (fun-ext (λ p. ap not (same p)))
     where
       same : (p : Placed) → supersededIn (map (moved f) ps) (moved f p) ≡ supersededIn ps p
@@ -153,11 +149,7 @@ moved-back n k (e ∷ es) h = rw (behind-gap n k h, moved-back n (k + 1) es (ome
 
 -- ---- the answer
 
--- the clock offset of an entry
-abbrev clockOffset : Placed → Float
-clockOffset p = p .entry .«clock_offset» .0
-
--- it is told by the survivors' clock offsets alone
+-- the board's clock offset is told by those of the survivors alone
 by-offsets : (es ds : List Entry) → clockOffsets (survivors es) ≡ clockOffsets (survivors ds) → boardOffset es ≡ boardOffset ds
 unfolding boardOffset
 by-offsets es ds c = mean-of es ∙ ap mean c ∙ sym (mean-of ds)
@@ -170,7 +162,7 @@ by-offsets es ds c = mean-of es ∙ ap mean c ∙ sym (mean-of ds)
 
 -- the entry that is taken out, at its place
 abbrev taken : List Entry → Entry → Placed
-taken front e = record { place = length front; entry = e }
+taken front e = at (length front) e
 
 module _ (front back : List Entry) (e : Entry) where
   -- the places with the entry
@@ -210,7 +202,7 @@ not-alone (a ∷ front) back e h = omega arith
 -- a list that passes the checks passes them without a superseded entry: some entry is left, and no double is new
 pub same-refusal : (front back : List Entry) (e : Entry) → boardRefusal (front ++ e ∷ back) ≡ 0 → T (supersededIn (placed (front ++ e ∷ back)) (taken front e))
     → boardRefusal (front ++ back) ≡ boardRefusal (front ++ e ∷ back)
-same-refusal front back e r h = ap₂ (λ (a b : Bool). firstFailing (check 14 a ∷ check 15 b ∷ [])) (counted ∙ sym (first .0)) (finite ∙ sym (second .0))
+same-refusal front back e r h = no-refusal rest (not-alone front back e h) fewer finite ∙ sym r
   where
     full : List Entry
     full = front ++ e ∷ back
@@ -218,20 +210,11 @@ same-refusal front back e r h = ap₂ (λ (a b : Bool). firstFailing (check 14 a
     rest : List Entry
     rest = front ++ back
 
-    first : (entriesMiscounted (length full) ≡ false) × (firstFailing (check 15 (any entryNotFinite full) ∷ []) ≡ 0)
-    first = passes-first 13 (entriesMiscounted (length full)) (check 15 (any entryNotFinite full) ∷ []) r
-
-    second : (any entryNotFinite full ≡ false) × (firstFailing [] ≡ 0)
-    second = passes-first 14 (any entryNotFinite full) [] (first .1)
-
-    few : length full ≤ mostEntries
-    few = ltb-false mostEntries (length full) (neither (eqb (length full) 0) (ltb mostEntries (length full)) (first .0) .1)
+    passed : (0 < length full) × (length full ≤ mostEntries) × (any entryNotFinite full ≡ false)
+    passed = passed-checks full r
 
     fewer : length rest ≤ mostEntries
-    fewer = omega (arith, few, length-append front (e ∷ back), length-append front back)
-
-    counted : entriesMiscounted (length rest) ≡ false
-    counted = rw (ne-eqb (length rest) 0 (λ c. omega (arith, not-alone front back e h)), le-ltb mostEntries (length rest) fewer)
+    fewer = omega (arith, passed .1, length-append front (e ∷ back), length-append front back)
 
     finite : any entryNotFinite rest ≡ false
-    finite = same-test (any entryNotFinite rest) false (λ t. subst T (second .0) (any-among entryNotFinite rest full (still-in front back e) t)) absurd
+    finite = same-test (any entryNotFinite rest) false (λ t. subst T (passed .2) (any-among entryNotFinite rest full (still-in front back e) t)) absurd

@@ -29,9 +29,11 @@ use Rattle.checks.proofs.Anys.{any-empty, any-one}
 use Rattle.board.specs.declared.entries.Entry.{Entry}
 use Rattle.board.specs.declared.superseding.Placed.{Placed}
 use Rattle.board.specs.declared.tally.Tally.{Tally}
-use Rattle.board.specs.Superseding.{placed, supersedes, supersededIn}
-use Rattle.board.specs.Board.{mostEntries, entriesMiscounted, entryNotFinite, clockOffsets, boardOffset, fleetBoard}
+use Rattle.board.specs.Superseding.{placed, supersedes, supersededIn, survives}
+use Rattle.board.specs.Board.{mostEntries, entriesMiscounted, entryNotFinite, clockOffset, clockOffsets, boardOffset, fleetBoard}
 use Rattle.board.specs.Steps.{takenOf, begunOf, passedOf, keptOf, onOf, comparedOf, tallied}
+use Rattle.common.proofs.Outcomes.{outcome-refused}
+use Rattle.board.proofs.Refusals.{miscounted-first}
 use Rattle.board.proofs.Places.{blank, at, length-placed, getD-placed}
 
 -- ---- what some places add to a sum and a count
@@ -43,8 +45,8 @@ module _ (keep : Placed → Bool) where
   abbrev counted : ℕ → List Placed → ℕ
   counted n ps = n + length (those keep ps)
 
-  summed-yes : (s : Float) (p : Placed) (ps : List Placed) → keep p ≡ true → summed (s ⊕ p .entry .«clock_offset» .0) ps ≡ summed s (p ∷ ps)
-  summed-yes s p ps h = sym (ap (λ (l : List Placed). sumFrom s (clockOffsets l)) (those-yes keep p ps h) ∙ sum-more s (p .entry .«clock_offset» .0) (clockOffsets (those keep ps)))
+  summed-yes : (s : Float) (p : Placed) (ps : List Placed) → keep p ≡ true → summed (s ⊕ clockOffset p) ps ≡ summed s (p ∷ ps)
+  summed-yes s p ps h = sym (ap (λ (l : List Placed). sumFrom s (clockOffsets l)) (those-yes keep p ps h) ∙ sum-more s (clockOffset p) (clockOffsets (those keep ps)))
 
   counted-yes : (n : ℕ) (p : Placed) (ps : List Placed) → keep p ≡ true → counted (n + 1) ps ≡ counted n (p ∷ ps)
   counted-yes n p ps h = let e : length (those keep (p ∷ ps)) ≡ 1 + length (those keep ps) = ap length (those-yes keep p ps h) ∙ omega arith in omega arith
@@ -55,17 +57,13 @@ module _ (keep : Placed → Bool) where
 abbrev judgedAt : List Entry → Tally → Placed
 judgedAt ys t = at (t .judged) (getD ys (t .judged) blank)
 
--- whether an entry of the list survives
-abbrev survives : List Entry → Placed → Bool
-survives ys p = not (supersededIn (placed ys) p)
-
 pub record Tallied (ys : List Entry) (n : ℕ) (t : Tally) : Type 0 where
   pub within : t .judged ≤ n
   pub inside : t .judged < n → t .against < n
   pub fewer : t .survivors ≤ t .judged
   pub row : supersededIn (drop (t .against) (placed ys)) (judgedAt ys t) ≡ supersededIn (placed ys) (judgedAt ys t)
-  pub sums : summed (survives ys) (t .sum .0) (drop (t .judged) (placed ys)) ≡ summed (survives ys) nought (placed ys)
-  pub counts : counted (survives ys) (t .survivors) (drop (t .judged) (placed ys)) ≡ length (those (survives ys) (placed ys))
+  pub sums : summed (survives (placed ys)) (t .sum .0) (drop (t .judged) (placed ys)) ≡ summed (survives (placed ys)) nought (placed ys)
+  pub counts : counted (survives (placed ys)) (t .survivors) (drop (t .judged) (placed ys)) ≡ length (those (survives (placed ys)) (placed ys))
   pub finite : (t .«not_finite» || any entryNotFinite (drop (t .judged) ys)) ≡ any entryNotFinite ys
 
 pub begun-tallied : (ys : List Entry) (n : ℕ) → Tallied ys n begunOf
@@ -112,11 +110,11 @@ module _ (ys : List Entry) (n : ℕ) (e : n ≡ length ys) (t : Tally) (k : Tall
     finite = finite-next;
   }
     where
-      lost : survives ys (judgedAt ys t) ≡ false
+      lost : survives (placed ys) (judgedAt ys t) ≡ false
       lost = ap not (sym (any-found (λ q. supersedes q (judgedAt ys t)) (at 0 blank) (placed ys) (t .against) (k .row) (omega (arith, many, k .inside l)) (test-here ∙ h)))
 
-      same : those (survives ys) (drop (t .judged + 1) (placed ys)) ≡ those (survives ys) (drop (t .judged) (placed ys))
-      same = sym (those-no (survives ys) (judgedAt ys t) (drop (t .judged + 1) (placed ys)) lost) ∙ ap (those (survives ys)) (sym left)
+      same : those (survives (placed ys)) (drop (t .judged + 1) (placed ys)) ≡ those (survives (placed ys)) (drop (t .judged) (placed ys))
+      same = sym (those-no (survives (placed ys)) (judgedAt ys t) (drop (t .judged + 1) (placed ys)) lost) ∙ ap (those (survives (placed ys))) (sym left)
 
   -- not by this one: the comparison goes on
   on-row : supersedes other (judgedAt ys t) ≡ false → supersededIn (drop (t .against + 1) (placed ys)) (judgedAt ys t) ≡ supersededIn (placed ys) (judgedAt ys t)
@@ -132,12 +130,15 @@ module _ (ys : List Entry) (n : ℕ) (e : n ≡ length ys) (t : Tally) (k : Tall
     inside = λ v. omega arith;
     fewer = omega (arith, k .fewer);
     row = refl;
-    sums = summed-yes (survives ys) (t .sum .0) (judgedAt ys t) (drop (t .judged + 1) (placed ys)) stands ∙ ap (summed (survives ys) (t .sum .0)) (sym left) ∙ k .sums;
-    counts = counted-yes (survives ys) (t .survivors) (judgedAt ys t) (drop (t .judged + 1) (placed ys)) stands ∙ ap (counted (survives ys) (t .survivors)) (sym left) ∙ k .counts;
+    sums = summed-yes (survives (placed ys)) (t .sum .0) (judgedAt ys t) (drop (t .judged + 1) (placed ys)) stands ∙ ap (summed (survives (placed ys)) (t .sum .0)) (sym left) ∙ k .sums;
+    counts =
+        counted-yes (survives (placed ys)) (t .survivors) (judgedAt ys t) (drop (t .judged + 1) (placed ys)) stands
+        ∙ ap (counted (survives (placed ys)) (t .survivors)) (sym left)
+        ∙ k .counts;
     finite = finite-next;
   }
     where
-      stands : survives ys (judgedAt ys t) ≡ true
+      stands : survives (placed ys) (judgedAt ys t) ≡ true
       stands = ap not (sym (any-none (λ q. supersedes q (judgedAt ys t)) (at 0 blank) (placed ys) (t .against + 1) (on-row h) (omega (arith, many))))
 
   pub compared-tallied : Tallied ys n (comparedOf t n (getD ys (t .judged) blank) (getD ys (t .against) blank))
@@ -187,8 +188,8 @@ module _ (ys : List Entry) (t : Tally) where
   -- too many: 14 whatever the tally has
   over : ltb mostEntries (length ys) ≡ true → tallied (length ys) t ≡ fleetBoard ys
   over h =
-      ap (λ (k : ℕ). outcome k (t .sum .0 ⊘ nearestOf (pos (t .survivors)))) (first-fails (check 14 (entriesMiscounted (length ys))) _ m)
-      ∙ sym (ap (λ (k : ℕ). outcome k (boardOffset ys)) (first-fails (check 14 (entriesMiscounted (length ys))) _ m))
+      sym (miscounted-first (length ys) t m)
+      ∙ outcome-refused 14 _ (boardOffset ys) (sym (first-fails (check 14 (entriesMiscounted (length ys))) _ m)) (λ c. omega arith)
     where
       some : length ys ≡ 0 → ⊥
       some z = omega (arith, ltb-true mostEntries (length ys) h)
@@ -203,15 +204,15 @@ module _ (ys : List Entry) (t : Tally) where
       ap₂ (λ (b : Bool) (x : Float). outcome (firstFailing (check 14 (entriesMiscounted (length ys)) ∷ check 15 b ∷ [])) x) met
       (ap₂ _⊘_ sum (ap (λ (n : ℕ). nearestOf (pos n)) count))
     where
-      none : those (survives ys) (drop (t .judged) (placed ys)) ≡ []
+      none : those (survives (placed ys)) (drop (t .judged) (placed ys)) ≡ []
       none =
           let past : length (placed ys) ≤ t .judged = omega (arith, length-placed 0 ys) in
-          ap (those (survives ys)) (drop-of-length-le (placed ys) past) ∙ those-none (survives ys)
+          ap (those (survives (placed ys))) (drop-of-length-le (placed ys) past) ∙ those-none (survives (placed ys))
 
-      sum : t .sum .0 ≡ summed (survives ys) nought (placed ys)
+      sum : t .sum .0 ≡ summed (survives (placed ys)) nought (placed ys)
       sum = sym (sum-none (t .sum .0)) ∙ ap (λ (l : List Placed). sumFrom (t .sum .0) (clockOffsets l)) (sym none) ∙ k .sums
 
-      count : t .survivors ≡ length (those (survives ys) (placed ys))
+      count : t .survivors ≡ length (those (survives (placed ys)) (placed ys))
       count = omega (arith, k .counts, ap length none)
 
       met : t .«not_finite» ≡ any entryNotFinite ys

@@ -42,17 +42,20 @@ entriesMiscounted n = eqb n 0 || ltb mostEntries n
 abbrev pub entryNotFinite : Entry → Bool
 entryNotFinite e = notFinite (e .«clock_offset» .0) || notFinite (e .«frequency_offset» .0) || notFinite (e .rmse .0)
 
--- the refusals "in this order", of so many entries
-abbrev pub boardChecks : ℕ → List Entry → List Check
-boardChecks n es = check 14 (entriesMiscounted n) ∷ check 15 (any entryNotFinite es) ∷ []
+-- the refusals "in this order"
+abbrev pub boardChecks : List Entry → List Check
+boardChecks es = check 14 (entriesMiscounted (length es)) ∷ check 15 (any entryNotFinite es) ∷ []
 
 -- the number of the first that fails, 0 where none does
 abbrev pub boardRefusal : List Entry → ℕ
-boardRefusal es = firstFailing (boardChecks (length es) es)
+boardRefusal es = firstFailing (boardChecks es)
 
--- the clock offsets of some entries
+-- the clock offset of an entry, and those of some
+abbrev pub clockOffset : Placed → Float
+clockOffset p = p .entry .«clock_offset» .0
+
 abbrev pub clockOffsets : List Placed → List Float
-clockOffsets ps = map (λ (p : Placed). p .entry .«clock_offset» .0) ps
+clockOffsets ps = map clockOffset ps
 
 -- "the mean of the survivors, summed in list order from 0.0 and divided by their count"
 unfoldable pub boardOffset : List Entry → Float

@@ -54,8 +54,10 @@ comparedOf t n e d =
     cond (supersedes (record { place = t .against; entry = d }) (record { place = t .judged; entry = e })) (passedOf t e)
     (cond (ltb (t .against + 1) n) (onOf t) (keptOf t e))
 
+-- the mean that a tally has
+abbrev pub meanOf : Tally → Float
+meanOf t = t .sum .0 ⊘ nearestOf (pos (t .survivors))
+
 -- the board of n entries by the tally of those looked at
 abbrev pub tallied : ℕ → Tally → Outcome Float
-tallied n t =
-    outcome (firstFailing (check 14 (entriesMiscounted n) ∷ check 15 (t .«not_finite») ∷ []))
-    (t .sum .0 ⊘ nearestOf (pos (t .survivors)))
+tallied n t = outcome (firstFailing (check 14 (entriesMiscounted n) ∷ check 15 (t .«not_finite») ∷ [])) (meanOf t)

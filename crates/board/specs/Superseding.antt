@@ -53,9 +53,13 @@ supersedes a b = sameSatellite a b && (later a b || sameInstant a b && (smallerR
 abbrev pub supersededIn : List Placed → Placed → Bool
 supersededIn ps p = any (λ q. supersedes q p) ps
 
--- "the survivors", those that no entry of the list supersedes, in list order
+-- whether p survives among a list: none of it supersedes p
+abbrev pub survives : List Placed → Placed → Bool
+survives ps p = not (supersededIn ps p)
+
+-- "the survivors", in list order
 abbrev pub survivorsOf : List Placed → List Placed
-survivorsOf ps = those (λ p. not (supersededIn ps p)) ps
+survivorsOf ps = those (survives ps) ps
 
 -- the same of a list of entries
 abbrev pub survivors : List Entry → List Placed

@@ -93,7 +93,7 @@ neither true b h = absurd (true≢false h)
 neither false b h = (refl, h)
 
 -- where the number is 0, the first check passes, and the number of the others is 0
-pub passes-first : (n : ℕ) (b : Bool) (cs : List Check) → firstFailing (check (suc n) b ∷ cs) ≡ 0 → (b ≡ false) × (firstFailing cs ≡ 0)
+pub passes-first : (n : ℕ) (b : Bool) (cs : List Check) → (n ≡ 0 → ⊥) → firstFailing (check n b ∷ cs) ≡ 0 → (b ≡ false) × (firstFailing cs ≡ 0)
 unfolding firstFailing
-passes-first n true cs e = absurd (omega arith)
-passes-first n false cs e = (refl, e)
+passes-first n true cs h e = absurd (h e)
+passes-first n false cs h e = (refl, e)

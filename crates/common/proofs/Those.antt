@@ -1,10 +1,13 @@
--- The laws of those of a list that are such: one element more, and none left; which elements they are; of one list after another, of what is made of a list, and one test after another.
+-- The laws of those of a list that are such: one element more, and none left; which elements they are, and how many at most; of one list after another, of what is made of a list, and one test after another.
 -- Each by the test of the first element. Assumes nothing.
 use mathlib.Core.Path.{_≡_, refl, sym, ap, subst}
 use mathlib.Core.Logic.{_⊎_, inl, inr}
 use mathlib.Core.Bool.{Bool, true, false, cond, _&&_}
 use mathlib.Core.List.{List, [], _∷_, _++_, map, List·Memᴰ, List·Memᴰ·head, List·Memᴰ·tail, List·Memᴰ·not-nil, List·Memᴰ·cases-cons}
+use Prim.Native.Nat.{suc, _≤_}
+use native.Mathlib.Omega.{arith}
 use lib.Dec.{T}
+use lib.ListN.{length}
 use Rattle.common.specs.Lists.{those}
 
 module _ {A : Type 0} (p : A → Bool) where
@@ -58,6 +61,16 @@ module _ {A : Type 0} (p : A → Bool) where
       go : (v : Bool) → (T v → ⊥) → those p xs ≡ [] → cond v (x ∷ those p xs) (those p xs) ≡ []
       go true n r = absurd (n tt)
       go false n r = r
+
+  -- they are at most as many
+  pub those-fewer : (xs : List A) → length (those p xs) ≤ length xs
+  unfolding those
+  those-fewer [] = omega arith
+  those-fewer (x ∷ xs) = go (p x) (those-fewer xs)
+    where
+      go : (v : Bool) → length (those p xs) ≤ length xs → length (cond v (x ∷ those p xs) (those p xs)) ≤ suc (length xs)
+      go true h = omega arith
+      go false h = omega arith
 
   -- of one list after another
   pub those-append : (xs ys : List A) → those p (xs ++ ys) ≡ those p xs ++ those p ys

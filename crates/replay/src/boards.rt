@@ -21,6 +21,9 @@ use units::Seconds;
 // How many words an entry has.
 const ENTRY_WORDS: usize = 5;
 
+// How many satellites 16 bits can name.
+const SATELLITES: u64 = 65536;
+
 // How many entries a case may have: as many as a board may, and two too many.
 const ROOM_FOR_ENTRIES: usize = MOST_ENTRIES + 2;
 
@@ -28,7 +31,7 @@ const ROOM_FOR_ENTRIES: usize = MOST_ENTRIES + 2;
 fn entry_at(wholes: &Wholes, doubles: &Doubles, at: usize) -> Entry {
     let words = ten_doubles(doubles, at);
     Entry {
-        satellite: (unsigned(whole_at(wholes, at, 0)) % 65536) as u16,
+        satellite: (unsigned(whole_at(wholes, at, 0)) % SATELLITES) as u16,
         instant: Nanoseconds(whole_at(wholes, at, 1)),
         clock_offset: Seconds(words[2]),
         frequency_offset: Hertz(words[3]),
@@ -51,7 +54,7 @@ fn entries_of(wholes: &Wholes, doubles: &Doubles) -> [Entry; ROOM_FOR_ENTRIES] {
 fn satellites_fit(wholes: &Wholes, n: usize) -> bool {
     for k in 0..ROOM_FOR_ENTRIES {
         if k < n {
-            if unsigned(whole_at(wholes, 1 + ENTRY_WORDS * k, 0)) > 65535 {
+            if unsigned(whole_at(wholes, 1 + ENTRY_WORDS * k, 0)) >= SATELLITES {
                 return false;
             }
         }

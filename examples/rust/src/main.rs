@@ -20,6 +20,9 @@ const MEANS_SHOWN: usize = 3;
 /// Too few samples for an approach: they lie in two seconds.
 const FEW_SAMPLES: usize = 5;
 
+/// How many entries the board has.
+const ENTRIES: usize = 4;
+
 /// The number of the pass's satellite on the board, and of another.
 const OWN_NUMBER: u16 = 1;
 const OTHER_NUMBER: u16 = 2;
@@ -135,7 +138,7 @@ fn show_few_samples(sample: &Sample) -> Result<bool, Refusal> {
 
 /// The board's entries: that of the pass, and three that are made up. Of these the first is of the same satellite and an hour older,
 /// and the others are of another satellite, at one instant, so that the last supersedes by its RMSE.
-fn board_of(report: &Report) -> [Entry; 4] {
+fn board_of(report: &Report) -> [Entry; ENTRIES] {
     let made_up = |satellite, seconds: i64, clock_offset, rmse| Entry {
         satellite,
         instant: Nanoseconds(report.approach.0 + seconds * SECOND),
@@ -299,7 +302,7 @@ fn show_commas() -> bool {
 }
 
 /// The same board with an RMSE that is no number is refused, though its entry is superseded.
-fn show_board_refused(mut board: [Entry; 4]) -> bool {
+fn show_board_refused(mut board: [Entry; ENTRIES]) -> bool {
     board[1].rmse = Hertz(f64::NAN);
     println!("\nThe same board, the RMSE of the older entry no number");
     print_refused(orbit::fleet_board(&board).err(), Refusal::EntryNotFinite)

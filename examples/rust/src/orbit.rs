@@ -573,8 +573,8 @@ pub fn read_sp3(
 
 /// The clock offset of a fleet board: the mean of the clock offsets of the entries that no other supersedes, one for each satellite,
 /// summed in list order. Of the entries of one satellite the later instant supersedes; at equal instants the smaller RMSE; if that is
-/// equal too, the one nearer the front. Any instant is taken. The mean is infinite where the sum passes the range of a double.
-/// Refuses by 14, 15.
+/// equal too, the one nearer the front. Any instant is taken. The mean is infinite where the sum, at any step, passes the range of a
+/// double. Refuses by 14, 15.
 pub fn fleet_board(entries: &[Entry]) -> Result<Seconds, Refusal> {
     let mut clock_offset = Seconds(0.0);
     // SAFETY: the pointer is to as many entries as the count after it says.

@@ -98,12 +98,12 @@ const TEXTS: &[Text] = &[
     (
         EntryCount,
         "no entry on the board, or more than 64.",
-        "lend at least one entry and at most 64; of each satellite only the latest counts.",
+        "lend at least one entry and at most 64; of each satellite the latest is enough.",
     ),
     (
         EntryNotFinite,
         "the clock offset, frequency offset or RMSE of an entry is not finite, superseded entries included.",
-        "strike out the entry, and see which boat sent it.",
+        "find the entry that holds it, and strike it out.",
     ),
 ];
 

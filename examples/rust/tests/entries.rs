@@ -83,15 +83,6 @@ fn refusal_of_file(file: &[u8], satellite: [u8; 3], room: (usize, usize)) -> Ref
     answer.unwrap_err()
 }
 
-// SAFETY: the signature of include/orbit.h. The wrapper lends a place of its own, so that only here one sees what a refusal leaves in it.
-unsafe extern "C" {
-    fn orbit_fleet_board(
-        entries: *const Entry,
-        entry_count: usize,
-        clock_offset: &mut Seconds,
-    ) -> u8;
-}
-
 /// An entry by its satellite, instant, RMSE and clock offset.
 fn entry(satellite: u16, instant: i64, rmse: f64, clock_offset: f64) -> Entry {
     Entry {
@@ -417,19 +408,6 @@ fn entries_that_are_not_finite() {
                 assert_eq!((refusal, refusal.number()), (Refusal::EntryNotFinite, 15));
             }
         }
-    }
-}
-
-#[test]
-fn a_refused_board_writes_nothing() {
-    let infinite = [entry(1, 0, 0.5, f64::INFINITY)];
-    let more = all_different(MOST_ENTRIES + 1);
-    for (entries, number) in [(&[][..], 14), (&more, 14), (&infinite, 15)] {
-        let mut clock_offset = Seconds(7.0);
-        // SAFETY: the pointer is to as many entries as the count after it says.
-        let refusal =
-            unsafe { orbit_fleet_board(entries.as_ptr(), entries.len(), &mut clock_offset) };
-        assert_eq!((refusal, clock_offset), (number, Seconds(7.0)));
     }
 }
 
