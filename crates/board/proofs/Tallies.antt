@@ -30,7 +30,7 @@ use Rattle.board.specs.declared.entries.Entry.{Entry}
 use Rattle.board.specs.declared.superseding.Placed.{Placed}
 use Rattle.board.specs.declared.tally.Tally.{Tally}
 use Rattle.board.specs.Superseding.{placed, supersedes, supersededIn, survives}
-use Rattle.board.specs.Board.{mostEntries, entriesMiscounted, entryNotFinite, clockOffset, clockOffsets, boardOffset, fleetBoard}
+use Rattle.board.specs.Board.{mostEntries, entriesMiscounted, entryNotFinite, clockOffset, clockOffsets, boardChecks, boardOffset, fleetBoard}
 use Rattle.board.specs.Steps.{takenOf, begunOf, passedOf, keptOf, onOf, comparedOf, tallied}
 use Rattle.common.proofs.Outcomes.{outcome-refused}
 use Rattle.board.proofs.Refusals.{miscounted-first}
@@ -201,7 +201,7 @@ module _ (ys : List Entry) (t : Tally) where
   whole : Tallied ys (length ys) t → length ys ≤ t .judged → tallied (length ys) t ≡ fleetBoard ys
   unfolding boardOffset
   whole k l =
-      ap₂ (λ (b : Bool) (x : Float). outcome (firstFailing (check 14 (entriesMiscounted (length ys)) ∷ check 15 b ∷ [])) x) met
+      ap₂ (λ (b : Bool) (x : Float). outcome (firstFailing (boardChecks (length ys) b)) x) met
       (ap₂ _⊘_ sum (ap (λ (n : ℕ). nearestOf (pos n)) count))
     where
       none : those (survives (placed ys)) (drop (t .judged) (placed ys)) ≡ []

@@ -42,15 +42,15 @@ entriesMiscounted n = eqb n 0 || ltb mostEntries n
 abbrev pub entryNotFinite : Entry → Bool
 entryNotFinite e = notFinite (e .«clock_offset» .0) || notFinite (e .«frequency_offset» .0) || notFinite (e .rmse .0)
 
--- the refusals "in this order"
-abbrev pub boardChecks : List Entry → List Check
-boardChecks es = check 14 (entriesMiscounted (length es)) ∷ check 15 (any entryNotFinite es) ∷ []
+-- the refusals "in this order", of so many entries, one of which has a double that is not finite or none has
+abbrev pub boardChecks : ℕ → Bool → List Check
+boardChecks n spoiled = check 14 (entriesMiscounted n) ∷ check 15 spoiled ∷ []
 
 -- the number of the first that fails, 0 where none does
 abbrev pub boardRefusal : List Entry → ℕ
-boardRefusal es = firstFailing (boardChecks es)
+boardRefusal es = firstFailing (boardChecks (length es) (any entryNotFinite es))
 
--- the clock offset of an entry, and those of some
+-- the clock offset of an entry, in seconds, and those of some
 abbrev pub clockOffset : Placed → Float
 clockOffset p = p .entry .«clock_offset» .0
 

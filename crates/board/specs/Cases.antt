@@ -53,8 +53,8 @@ pub sumCases : (fleetBoard (entry 5 (pos 0) minusZero one ∷ []) ≡ answered n
 unfolding placedFrom supersedes boardOffset those any notFinite firstFailing sumFrom lt eq neg round add div ofInt
 sumCases = (refl, refl)
 
--- no entry and 65 are refused by 14, though a double is not finite, and 64 are not; a double that is not finite by 15, each of the three, though its entry
--- is superseded
+-- no entry and 65 are refused by 14, though a double is not finite, and 64 are not; each of the three doubles that is not finite by 15, in a superseded
+-- entry too
 pub refusalCases : (fleetBoard [] ≡ refused 14)
     × (fleetBoard (replicate 65 (entry 5 (pos 0) nan one)) ≡ refused 14)
     × (boardRefusal (replicate 64 (entry 5 (pos 0) one one)) ≡ 0)

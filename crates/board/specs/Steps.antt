@@ -1,7 +1,6 @@
 -- Inner: the steps of the board's functions.
 use Prim.Native.Nat.{ℕ, _+_, _≤_, _<_}
 use mathlib.Core.Bool.{false, cond, _||_}
-use mathlib.Core.List.{[], _∷_}
 use lib.Dec.{ltb}
 use lib.IntN.{pos}
 use lib.Ieee.{Float}
@@ -9,11 +8,11 @@ use Rattle.common.specs.Rounded.{_⊕_, _⊘_}
 use Rattle.common.specs.Numbers.{nought}
 use Rattle.common.specs.Outcome.{Outcome, outcome}
 use Rattle.float.specs.Conversions.{nearestOf}
-use Rattle.checks.specs.Entries.{check, firstFailing}
+use Rattle.checks.specs.Entries.{firstFailing}
 use Rattle.board.specs.declared.entries.Entry.{Entry}
 use Rattle.board.specs.declared.tally.Tally.{Tally}
 use Rattle.board.specs.Superseding.{supersedes}
-use Rattle.board.specs.Board.{mostEntries, entriesMiscounted, entryNotFinite}
+use Rattle.board.specs.Board.{mostEntries, entryNotFinite, boardChecks}
 
 -- how many of n entries are looked at: all, or none where they are too many
 abbrev pub takenOf : ℕ → ℕ
@@ -60,4 +59,4 @@ meanOf t = t .sum .0 ⊘ nearestOf (pos (t .survivors))
 
 -- the board of n entries by the tally of those looked at
 abbrev pub tallied : ℕ → Tally → Outcome Float
-tallied n t = outcome (firstFailing (check 14 (entriesMiscounted n) ∷ check 15 (t .«not_finite») ∷ [])) (meanOf t)
+tallied n t = outcome (firstFailing (boardChecks n (t .«not_finite»))) (meanOf t)
