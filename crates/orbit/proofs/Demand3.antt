@@ -12,6 +12,8 @@ use lib.IntN.{ℤ}
 use lib.ListN.{length, getD, drop, length-map}
 use lib.Ieee.{Float, nan, lt}
 use Rattle.chebyshev.specs.Inverse.{Matrix, singularRefusal}
+use Rattle.common.specs.Lists.{those, howMany}
+use Rattle.common.proofs.Those.{those-map}
 use Rattle.common.specs.Outcome.{Outcome, refused, answered, mapped, unlessRefused, area}
 use Rattle.checks.proofs.Checked.{pass-areas, pass-never-ten}
 use Rattle.samples.specs.Means.{Sample, recording, means, instants, frequencies, Alike}
@@ -25,9 +27,9 @@ use Rattle.orbit.proofs.Models.{inversion-eight}
 use Rattle.orbit.specs.Window.{windowSeconds, windowStart, inversionOf, modelOr}
 use Rattle.orbit.specs.Propagation.{Motion, motionAt}
 use Rattle.orbit.specs.Fit.{trial, usable, coarse, shifts, reportOfTrial, fitOf, noneUsableRefusal}
-use Rattle.orbit.specs.Residuals.{Inputs, propagatedBy, moved, residualIn, residualOf, keep, residuals}
+use Rattle.orbit.specs.Residuals.{Inputs, propagatedBy, moved, liesOutside, outsideCount, residualIn, residualOf, keep, residuals}
 use Rattle.orbit.specs.Passes.{approachOr, middleOf, measuredOf, passOutcome, passRefusal, pass}
-use Rattle.orbit.specs.Demand3.{NoCoarse, tried, measuredFor, basisFor, centreFor, shiftsFor, triedAt, CentreIs, positioned, propagates, howMany, rmseFor, Usable, ShiftsAre, Fields, Choice, Demand3, Call, TwoCalls}
+use Rattle.orbit.specs.Demand3.{NoCoarse, tried, measuredFor, basisFor, centreFor, shiftsFor, triedAt, CentreIs, positioned, propagates, rmseFor, Usable, ShiftsAre, Fields, Choice, Demand3, Call, TwoCalls}
 use Rattle.orbit.proofs.Middles.{fallback-where}
 use Rattle.orbit.proofs.FirstRange.{first-minute, first-second}
 use Rattle.orbit.proofs.FirstLeast.{at-least-the-winner's, refused-exactly, Chosen, exactly-one}
@@ -37,13 +39,17 @@ use Rattle.orbit.proofs.ListOfShifts.{coarse-steps, fine-steps, micro-s
 
 -- as many residuals are left as means can be propagated
 left-many : (i : Inputs) (x : Float) (M : List Sample) → length (residuals (residualOf i x) M) ≡ howMany (propagates i x) M
-unfolding residuals howMany
+unfolding residuals those
 left-many i x [] = refl
 left-many i x (m ∷ ms) = go (propagatedBy i (moved (m .instant) x)) (left-many i x ms)
   where
-    go : (o : Outcome Motion) → length (residuals (residualOf i x) ms) ≡ howMany (propagates i x) ms → length (keep (residualIn (i .settings) (m .frequency) o) (residuals (residualOf i x) ms)) ≡ cond (positioned o) (suc (howMany (propagates i x) ms)) (howMany (propagates i x) ms)
+    go : (o : Outcome Motion) → length (residuals (residualOf i x) ms) ≡ howMany (propagates i x) ms → length (keep (residualIn (i .settings) (m .frequency) o) (residuals (residualOf i x) ms)) ≡ length (cond (positioned o) (m ∷ those (propagates i x) ms) (those (propagates i x) ms))
     go (refused n) e = e
     go (answered w) e = ap suc e
+
+-- as many of the means' instants lie outside, moved, as means
+outside-many : (i : Inputs) (x : Float) (M : List Sample) → outsideCount (i .instants) (instants M) x ≡ howMany (λ m. liesOutside (i .instants) x (m .instant)) M
+outside-many i x M = let lies = liesOutside (i .instants) x in ap length (those-map lies (λ m. m .instant) M) ∙ length-map (those (λ (m : Sample). lies (m .instant)) M) (λ (m : Sample). m .instant)
 
 -- propagation is refused by 8 alone
 refused-by-8 : (i : Inputs) (t : ℤ) (n : ℕ) → propagatedBy i t ≡ refused n → n ≡ singularRefusal
@@ -105,7 +111,7 @@ shifts-are i S = record {
 
 module _ (i : Inputs) (S : List Sample) where
   -- the winner of the list of the shifts is the place that demand 3 asks for, and the other way round
-  choice-of : (k : ℕ) → Chosen (tried i S) (basisFor S) (centreFor i S) k → Choice i S k
+  choice-of : (k : ℕ) → Chosen (tried i S) (basisFor i S) (centreFor i S) k → Choice i S k
   choice-of k c = record {
     inside = c .wins .inside;
     can-be-used = c .wins .can-be-used;
@@ -114,7 +120,7 @@ module _ (i : Inputs) (S : List Sample) where
     first = c .wins .first;
   }
 
-  chosen-of : (k : ℕ) → Choice i S k → Chosen (tried i S) (basisFor S) (centreFor i S) k
+  chosen-of : (k : ℕ) → Choice i S k → Chosen (tried i S) (basisFor i S) (centreFor i S) k
   chosen-of k c = record {
     wins = record {
       inside = c .inside;
@@ -127,10 +133,10 @@ module _ (i : Inputs) (S : List Sample) where
 
   -- so there is exactly one
   one-choice : passOutcome i S ≢ refused noneUsableRefusal → (k : ℕ) × Choice i S k × ((j : ℕ) → Choice i S j → j ≡ k)
-  one-choice ne = let r = exactly-one (tried i S) (basisFor S) (centreFor i S) ne in (r .0, choice-of (r .0) (r .1), λ j c. r .2 j (chosen-of j c))
+  one-choice ne = let r = exactly-one (tried i S) (basisFor i S) (centreFor i S) ne in (r .0, choice-of (r .0) (r .1), λ j c. r .2 j (chosen-of j c))
 
   -- the fields of the report of a shift
-  fields-of : (x : Float) → Fields i S x (reportOfTrial (basisFor S) (tried i S x))
+  fields-of : (x : Float) → Fields i S x (reportOfTrial (basisFor i S) (tried i S x))
   unfolding trial
   fields-of x = record {
     clock-offset = refl;
@@ -139,11 +145,12 @@ module _ (i : Inputs) (S : List Sample) where
     count-is = refl;
     approach-is = refl;
     fallback-exactly = fallback-where (instants (means S)) (frequencies (means S));
+    outside-is = outside-many i x (means S);
   }
 
   fields-are : (k : ℕ) → Choice i S k → (r : Report) → passOutcome i S ≡ answered r → Fields i S (getD (shiftsFor i S) k nan) r
   fields-are k c r e =
-      let same : reportOfTrial (basisFor S) (triedAt i S k) ≡ r = cc (c .reported) in
+      let same : reportOfTrial (basisFor i S) (triedAt i S k) ≡ r = cc (c .reported) in
       subst (Fields i S (getD (shiftsFor i S) k nan)) same (fields-of (getD (shiftsFor i S) k nan))
 
 -- demand 3
@@ -156,7 +163,7 @@ demand-3 i S = record {
   centre = centre-is i S;
   usable = usable-is i S;
   shifts = shifts-are i S;
-  refusal = refused-exactly (tried i S) (basisFor S) (centreFor i S);
+  refusal = refused-exactly (tried i S) (basisFor i S) (centreFor i S);
   choice = one-choice i S;
   reports = fields-are i S;
   alone = λ S′ a. (same-means S S′ a, ap (λ (M : List Sample). fitOf i M (measuredOf M)) (same-means S S′ a));

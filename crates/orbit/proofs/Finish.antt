@@ -17,7 +17,7 @@ use Rattle.float.specs.Bounds.{Within}
 use Rattle.float.proofs.Bounds.{sub-within}
 use Rattle.orbit.specs.declared.stages.Stage.{Stage}
 use Rattle.orbit.specs.declared.stages.LeastSoFar.{LeastSoFar}
-use Rattle.orbit.specs.Bounds.{FitAreas, SmallStage, farthestCentre, farthestCoarse, farthestStart, farthestFine}
+use Rattle.orbit.specs.Bounds.{FitAreas, SmallStage, farthestCentre, farthestCoarse, farthestStart, farthestFine, farthestShift}
 use Rattle.orbit.specs.Fit.{Trial, Best, noneYet, found, firstLeast, shiftsOf, coarseStage, fineStage, microStage, coarse, Basis, reportOfBest, fitByTrials, noneUsableRefusal}
 use Rattle.orbit.specs.Stages.{stateOf, state, updates, afterStage, afterCoarse, afterFurther, refined, reportOfState, finished}
 use Rattle.orbit.proofs.Shifts.{weaken}
@@ -121,3 +121,12 @@ module _ (try : Float → Trial) where
     fine-small s h =
         stage-kept try named (farthestCoarse + 1) farthestFine (fineStage (s .shift .0)) s (omega arith) (omega arith) (omega arith) (weaken farthestCoarse farthestFine (s .shift .0) (omega arith) h)
         (sub-within farthestCoarse 1 (s .shift .0) twentieth (omega arith) h (omega arith)) (omega arith)
+
+    pub micro-small : (s : LeastSoFar) → Within farthestFine (s .shift .0) → Within farthestShift (afterFurther try microStage s .shift .0)
+    micro-small s h =
+        stage-kept try named (farthestFine + 1) farthestShift (microStage (s .shift .0)) s (omega arith) (omega arith) (omega arith) (weaken farthestFine farthestShift (s .shift .0) (omega arith) h)
+        (sub-within farthestFine 1 (s .shift .0) thousandth (omega arith) h (omega arith)) (omega arith)
+
+    -- so is the shift that is reported
+    pub refined-small : (s : LeastSoFar) → Within farthestCoarse (s .shift .0) → Within farthestShift (refined try s .shift .0)
+    refined-small s h = micro-small (afterFurther try fineStage s) (fine-small s h)

@@ -17,7 +17,7 @@ use Rattle.common.proofs.Search.{one-first, found-among, first-of-mapped, searc
 use Rattle.float.proofs.Leasts.{and-not, least-first}
 use Rattle.common.specs.Outcome.{refused, answered}
 use Rattle.common.specs.Numbers.{largestFinite}
-use Rattle.orbit.specs.Demand3.{place, Wins, NoCoarse}
+use Rattle.orbit.specs.Demand3.{trialAt, Wins, NoCoarse}
 use Rattle.orbit.specs.Fit.{Trial, usable, Best, noneYet, found, rmseOf, enoughOf, smaller, firstLeast, coarse, further, coarseFine, shifts, Basis, reportOfTrial, reportOfBest, fitByTrials, noneUsableRefusal}
 use Rattle.orbit.specs.declared.stages.Stage.{Stage}
 
@@ -69,20 +69,20 @@ After at n noneYet = (j : ℕ) → j < n → T (not (usable (at j)))
 After at n (found t) = (i : ℕ) × (t ≡ at i) × Wins at n i
 
 -- the law of the first least: `noneYet` exactly where no place of the list is usable, and else the trial at the place that wins
-pub first-least : (try : Float → Trial) (L : List Float) → After (place try L) (length L) (firstLeast try L)
+pub first-least : (try : Float → Trial) (L : List Float) → After (trialAt try L) (length L) (firstLeast try L)
 first-least try L = go (first-of-mapped smaller smaller-compares noneYet (λ x. found (try x)) nan L)
   where
-    go : Searched smaller noneYet (λ j. found (place try L j)) 0 (length L) (firstLeast try L) → After (place try L) (length L) (firstLeast try L)
-    go (kept e none) = subst (After (place try L) (length L)) (sym e) (λ j h. none j (omega arith) h)
-    go (won i e f) = subst (After (place try L) (length L)) (sym e) (i, refl, wins-of (place try L) (length L) i f)
+    go : Searched smaller noneYet (λ j. found (trialAt try L j)) 0 (length L) (firstLeast try L) → After (trialAt try L) (length L) (firstLeast try L)
+    go (kept e none) = subst (After (trialAt try L) (length L)) (sym e) (λ j h. none j (omega arith) h)
+    go (won i e f) = subst (After (trialAt try L) (length L)) (sym e) (i, refl, wins-of (trialAt try L) (length L) i f)
 
 -- nothing is found where no place is usable
-pub none-found : (try : Float → Trial) (L : List Float) → ((j : ℕ) → j < length L → T (not (usable (place try L j)))) → firstLeast try L ≡ noneYet
+pub none-found : (try : Float → Trial) (L : List Float) → ((j : ℕ) → j < length L → T (not (usable (trialAt try L j)))) → firstLeast try L ≡ noneYet
 none-found try L none = go (firstLeast try L) refl (first-least try L)
   where
-    go : (b : Best) → firstLeast try L ≡ b → After (place try L) (length L) b → firstLeast try L ≡ noneYet
+    go : (b : Best) → firstLeast try L ≡ b → After (trialAt try L) (length L) b → firstLeast try L ≡ noneYet
     go noneYet p a = p
-    go (found t) p a = absurd (T-not (usable (place try L (a .0))) (none (a .0) (a .2 .inside)) (a .2 .can-be-used))
+    go (found t) p a = absurd (T-not (usable (trialAt try L (a .0))) (none (a .0) (a .2 .inside)) (a .2 .can-be-used))
 
 -- ---- one stage after another
 
@@ -97,8 +97,8 @@ next-stage try s t = ap (firstBest smaller noneYet) (map-append (λ (x : Float).
 -- what was found may be beaten, and is never lost
 pub still-found : (try : Float → Trial) (t : Trial) (L : List Float) → (u : Trial) × (leastFrom try (found t) L ≡ found u)
 still-found try t L =
-    found-among smaller (found t) (λ j. found (place try L j)) 0 (length L) (λ b. (u : Trial) × (b ≡ found u)) (first-of-mapped smaller smaller-compares (found t) (λ x. found (try x)) nan L) (t, refl)
-    (λ j l h. (place try L j, refl))
+    found-among smaller (found t) (λ j. found (trialAt try L j)) 0 (length L) (λ b. (u : Trial) × (b ≡ found u)) (first-of-mapped smaller smaller-compares (found t) (λ x. found (try x)) nan L) (t, refl)
+    (λ j l h. (trialAt try L j, refl))
 
 module _ (try : Float → Trial) (basis : Basis) (centre : Float) where
   found-later : (s t : List Float) (x : Trial) → firstLeast try s ≡ found x → (u : Trial) × (firstLeast try (s ++ t) ≡ found u)
@@ -130,24 +130,24 @@ module _ (try : Float → Trial) (basis : Basis) (centre : Float) where
       answers : (u : Trial) → firstLeast try (shifts try centre) ≡ found u → fitByTrials try basis centre ≡ refused noneUsableRefusal → ⊥
       answers u p q = let z : _≡_ {A = ℕ} 0 1 = cc (ap (reportOfBest basis) p) in omega arith
 
-      forth : (b : Best) → firstLeast try (coarse centre) ≡ b → fitByTrials try basis centre ≡ refused noneUsableRefusal → After (place try (coarse centre)) (length (coarse centre)) b → NoCoarse try centre
+      forth : (b : Best) → firstLeast try (coarse centre) ≡ b → fitByTrials try basis centre ≡ refused noneUsableRefusal → After (trialAt try (coarse centre)) (length (coarse centre)) b → NoCoarse try centre
       forth noneYet p e a = a
       forth (found x) p e a = let r = in-the-end x p in absurd (answers (r .0) (r .1) e)
 
   -- the place i of the list of the shifts wins, and the report is that of its shift
   pub record Chosen (i : ℕ) : Type 0 where
-    pub wins : Wins (place try (shifts try centre)) (length (shifts try centre)) i
-    pub reported : fitByTrials try basis centre ≡ answered (reportOfTrial basis (place try (shifts try centre) i))
+    pub wins : Wins (trialAt try (shifts try centre)) (length (shifts try centre)) i
+    pub reported : fitByTrials try basis centre ≡ answered (reportOfTrial basis (trialAt try (shifts try centre) i))
 
   -- otherwise there is exactly one such place
   pub exactly-one : fitByTrials try basis centre ≢ refused noneUsableRefusal → (i : ℕ) × Chosen i × ((k : ℕ) → Chosen k → k ≡ i)
   unfolding fitByTrials
   exactly-one ne = go (firstLeast try (shifts try centre)) refl (first-least try (shifts try centre))
     where
-      go : (b : Best) → firstLeast try (shifts try centre) ≡ b → After (place try (shifts try centre)) (length (shifts try centre)) b → (i : ℕ) × Chosen i × ((k : ℕ) → Chosen k → k ≡ i)
+      go : (b : Best) → firstLeast try (shifts try centre) ≡ b → After (trialAt try (shifts try centre)) (length (shifts try centre)) b → (i : ℕ) × Chosen i × ((k : ℕ) → Chosen k → k ≡ i)
       go noneYet p a = absurd (ne (ap (reportOfBest basis) p))
       go (found t) p a = (
         a .0,
         record { wins = a .2; reported = ap (reportOfBest basis) p ∙ ap (λ (x : Trial). answered (reportOfTrial basis x)) (a .1) },
-        λ k c. one-winner (place try (shifts try centre)) (length (shifts try centre)) (a .0) k (a .2) (c .wins),
+        λ k c. one-winner (trialAt try (shifts try centre)) (length (shifts try centre)) (a .0) k (a .2) (c .wins),
       )

@@ -1,5 +1,6 @@
 -- What the proofs of orbit share, and the laws and theorems that a reader cites (`pub`).
 mod Searches
+pub mod PlaceLaws
 pub mod Models
 mod Offsets
 pub mod FirstRange

@@ -14,7 +14,7 @@ use Rattle.common.proofs.Filled.{length-listOf, getD-listOf}
 use Rattle.common.specs.Rounded.{_⊖_}
 use Rattle.common.specs.Numbers.{nought, five, fifteen, tenth, twentieth, thousandth, hundredThousandth}
 use Rattle.orbit.specs.Fit.{Trial, Best, noneYet, found, firstLeast, shiftAt, shiftsOf, coarseStage, fineStage, microStage, coarse, further, coarseFine, shifts, Basis, reportOfBest, fitByTrials}
-use Rattle.orbit.specs.Demand3.{place, Wins, NoCoarse, Steps, Listing}
+use Rattle.orbit.specs.Demand3.{trialAt, Wins, NoCoarse, Steps, Listing}
 use Rattle.orbit.proofs.FirstLeast.{After, first-least, none-found, leastFrom, next-stage, still-found}
 use Rattle.orbit.specs.declared.stages.Stage.{Stage}
 
@@ -92,7 +92,7 @@ coarse-alone try centre none =
 
 module _ (try : Float → Trial) (named : (x : Float) → try x .shift ≡ x) where
   -- a stage from the first least of L is that from the shift at the place that wins
-  after : (f : Float → Stage) (L : List Float) (b : Best) → firstLeast try L ≡ b → After (place try L) (length L) b → b ≢ noneYet → (i : ℕ) × Wins (place try L) (length L) i × (further f (firstLeast try L) ≡ shiftsOf (f (getD L i nan)))
+  after : (f : Float → Stage) (L : List Float) (b : Best) → firstLeast try L ≡ b → After (trialAt try L) (length L) b → b ≢ noneYet → (i : ℕ) × Wins (trialAt try L) (length L) i × (further f (firstLeast try L) ≡ shiftsOf (f (getD L i nan)))
   after f L noneYet e a n = absurd (n refl)
   after f L (found t) e a n = (a .0, a .2, ap (further f) e ∙ ap (λ (x : Float). shiftsOf (f x)) (ap (λ (x : Trial). x .shift) (a .1) ∙ named (getD L (a .0) nan)))
 
@@ -105,7 +105,7 @@ module _ (try : Float → Trial) (named : (x : Float) → try x .shift ≡ x) wh
       (one .0, two .0, record { of-coarse = one .1; then-fine = ap (λ (l : List Float). coarse centre ++ l) (one .2); of-both = two .1; then-micro = ap (λ (l : List Float). coarseFine try centre ++ l) (two .2) })
     where
       some : firstLeast try (coarse centre) ≢ noneYet
-      some e = h (subst (After (place try (coarse centre)) (length (coarse centre))) e (first-least try (coarse centre)))
+      some e = h (subst (After (trialAt try (coarse centre)) (length (coarse centre))) e (first-least try (coarse centre)))
 
       kept : (b : Best) → b ≢ noneYet → (L : List Float) → leastFrom try b L ≢ noneYet
       kept noneYet n L e = n refl

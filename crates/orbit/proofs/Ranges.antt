@@ -12,8 +12,8 @@ use Rattle.units.specs.declared.Velocity.{Velocity}
 use Rattle.units.specs.declared.Observer.{Observer}
 use Rattle.common.specs.Outcome.{Outcome}
 use Rattle.orbit.specs.declared.closest.LeastRange.{LeastRange}
-use Rattle.orbit.specs.declared.propagation.Propagation.{Propagation}
-use Rattle.orbit.specs.declared.propagation.Propagation.the-variants.{At, Refused}
+use Rattle.orbit.specs.declared.propagation.MotionAnswer.{MotionAnswer}
+use Rattle.orbit.specs.declared.propagation.MotionAnswer.the-variants.{At, Refused}
 use Rattle.orbit.specs.Propagation.{Motion, motionIn}
 use Rattle.orbit.specs.Closest.{squaredRange, rangeIn, nearer, centred, minutes, secondsAbout, rangedAt, ranges, byMinutes, bySeconds}
 use Rattle.common.specs.Search.{betterOf, firstBest}
@@ -29,19 +29,19 @@ abbrev at-offset : Observer → ℤ → Outcome Motion → LeastRange
 at-offset o offset q = record { range = rangeIn o q; offset = offset }
 
 -- no position, no range
-pub nearer-refused : (o : Observer) (r : Propagation) (q : Outcome Motion) (n : ℕ) (offset : ℤ) (best : LeastRange) → motionIn r ≡ q → r ≡ Refused n → best ≡ betterOf nearer best (at-offset o offset q)
+pub nearer-refused : (o : Observer) (r : MotionAnswer) (q : Outcome Motion) (n : ℕ) (offset : ℤ) (best : LeastRange) → motionIn r ≡ q → r ≡ Refused n → best ≡ betterOf nearer best (at-offset o offset q)
 unfolding lt
 nearer-refused o r q n offset best e er = ap (λ (x : Outcome Motion). betterOf nearer best (at-offset o offset x)) (sym (ap motionIn er) ∙ e)
 
 -- the place wins, or it does not
-pub nearer-won : (o : Observer) (r : Propagation) (q : Outcome Motion) (p : Position) (v : Velocity) (offset z : ℤ) (best : LeastRange) (range : Float) → motionIn r ≡ q → r ≡ At p v → range ≡ squaredRange o p
+pub nearer-won : (o : Observer) (r : MotionAnswer) (q : Outcome Motion) (p : Position) (v : Velocity) (offset z : ℤ) (best : LeastRange) (range : Float) → motionIn r ≡ q → r ≡ At p v → range ≡ squaredRange o p
     → z ≡ offset → lt range (best .range) ≡ true → _≡_ {A = LeastRange} (record { range = range; offset = z }) (betterOf nearer best (at-offset o offset q))
 nearer-won o r q p v offset z best range e er ee ez w =
     rw (ez, ee)
     (ap (λ (b : Bool). cond b (record { range = squaredRange o p; offset = offset }) best) (sym (ap (λ (x : Float). lt x (best .range)) (sym ee) ∙ w))
     ∙ ap (λ (x : Outcome Motion). betterOf nearer best (at-offset o offset x)) (sym (ap motionIn er) ∙ e))
 
-pub nearer-lost : (o : Observer) (r : Propagation) (q : Outcome Motion) (p : Position) (v : Velocity) (offset : ℤ) (best : LeastRange) (range : Float) → motionIn r ≡ q → r ≡ At p v → range ≡ squaredRange o p
+pub nearer-lost : (o : Observer) (r : MotionAnswer) (q : Outcome Motion) (p : Position) (v : Velocity) (offset : ℤ) (best : LeastRange) (range : Float) → motionIn r ≡ q → r ≡ At p v → range ≡ squaredRange o p
     → lt range (best .range) ≡ false → best ≡ betterOf nearer best (at-offset o offset q)
 nearer-lost o r q p v offset best range e er ee w =
     ap (λ (b : Bool). cond b (record { range = squaredRange o p; offset = offset }) best) (sym (ap (λ (x : Float). lt x (best .range)) (sym ee) ∙ w))

@@ -16,7 +16,7 @@ use Rattle.common.specs.Numbers.{largestFinite}
 use Rattle.orbit.specs.Fit.{Trial, Best, noneYet, found, smaller, firstLeast, shiftAt, shiftsOf}
 use Rattle.orbit.specs.Stages.{stateOf, state, update, updates, afterStage}
 use Rattle.orbit.proofs.Shifts.{weaken, stage-within}
-use Rattle.orbit.specs.Demand3.{place}
+use Rattle.orbit.specs.Demand3.{trialAt}
 use Rattle.orbit.proofs.FirstLeast.{After, first-least, leastFrom}
 use Rattle.orbit.specs.Bounds.{mostSteps, farthestStart}
 use Rattle.orbit.specs.declared.stages.Stage.{Stage}
@@ -69,9 +69,9 @@ Below (found t) = T (lt (t .rmse) largestFinite)
 pub below-least : (try : Float → Trial) (L : List Float) → Below (firstLeast try L)
 below-least try L = go (firstLeast try L) (first-least try L)
   where
-    go : (b : Best) → After (place try L) (length L) b → Below b
+    go : (b : Best) → After (trialAt try L) (length L) b → Below b
     go noneYet a = tt
-    go (found t) a = subst (λ (x : Trial). T (lt (x .rmse) largestFinite)) (sym (a .1)) (and-r (place try L (a .0) .enough) (lt (place try L (a .0) .rmse) largestFinite) (a .2 .can-be-used))
+    go (found t) a = subst (λ (x : Trial). T (lt (x .rmse) largestFinite)) (sym (a .1)) (and-r (trialAt try L (a .0) .enough) (lt (trialAt try L (a .0) .rmse) largestFinite) (a .2 .can-be-used))
 
 -- the shift that is kept is the start's or one of those tried
 updated-within : (n : ℕ) (s : LeastSoFar) (t : Trial) → Within n (s .shift .0) → Within n (t .shift) → Within n (update s t .shift .0)

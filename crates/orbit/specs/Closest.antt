@@ -19,6 +19,7 @@ use Rattle.orbit.specs.declared.closest.LeastRange.{LeastRange}
 use Rattle.orbit.specs.declared.closest.ClosestApproach.{ClosestApproach}
 use Rattle.orbit.specs.declared.closest.ClosestApproach.the-variants.{At, Refused}
 use Rattle.orbit.specs.Window.{evenTolerance}
+use Rattle.orbit.specs.Place.{Located, located}
 use Rattle.orbit.specs.Propagation.{Motion, propagated}
 
 -- a number times itself
@@ -85,12 +86,13 @@ module _ (tolerance : Seconds) (instants : List ℤ) (positions : List Float) (o
 
 -- ---- the entry: checks 1, 4, 5, 6, never 8
 
--- the refusal, or that instant
-abbrev pub findPcaTime : List ℤ → List Float → Observer → ℤ → Outcome ℤ
+-- the refusal, or that instant. Request 2.6: "Closest approach says it of the instant it answers"
+abbrev pub findPcaTime : List ℤ → List Float → Observer → ℤ → Outcome (Located ℤ)
 findPcaTime instants positions o t =
-    outcome (firstFailing (closestChecks instants positions o t)) (closestInstant evenTolerance instants positions o t)
+    let found = closestInstant evenTolerance instants positions o t in
+    outcome (firstFailing (closestChecks instants positions o t)) (located instants found found)
 
--- the paper's number and value of each case of the answer
-abbrev pub closestIn : ClosestApproach → Outcome ℤ
-closestIn (At t) = answered (t .0)
+-- the paper's number and values of each case of the answer
+abbrev pub closestIn : ClosestApproach → Outcome (Located ℤ)
+closestIn (At t place) = answered (record { answer = t .0; place = place })
 closestIn (Refused n) = refused n

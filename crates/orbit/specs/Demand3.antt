@@ -3,8 +3,8 @@
 use mathlib.Core.Path.{_≡_}
 use mathlib.Core.Logic.{_≢_, _↔_}
 use mathlib.Core.Bool.{Bool, true, false, not, cond}
-use mathlib.Core.List.{List, [], _∷_, _++_, map, List·Memᴰ}
-use Prim.Native.Nat.{ℕ, suc, _+_, _/_, _≤_, _<_}
+use mathlib.Core.List.{List, [], _++_, map, List·Memᴰ}
+use Prim.Native.Nat.{ℕ, _+_, _/_, _≤_, _<_}
 use lib.Dec.{T}
 use lib.IntN.{ℤ, pos}
 use lib.ListN.{length, getD, drop}
@@ -14,6 +14,7 @@ use Rattle.common.specs.Numbers.{nought, largestFinite, five, fifteen, tenth, t
 use Rattle.common.specs.Rounded.{_⊕_, _⊖_, _⊗_}
 use Rattle.common.specs.Outcome.{Outcome, refused, answered}
 use Rattle.common.specs.Search.{Searched}
+use Rattle.common.specs.Lists.{howMany}
 use Rattle.float.specs.Root.{root}
 use Rattle.float.specs.Signs.{magnitudeOf}
 use Rattle.float.specs.Conversions.{nearestOf}
@@ -26,7 +27,7 @@ use Rattle.orbit.specs.Propagation.{Motion}
 use Rattle.orbit.specs.Closest.{movedBySeconds, nearer, centred, minutes, secondsAbout, rangedAt, byMinutes, bySeconds}
 use Rattle.orbit.specs.Fit.{Trial, trial, usable, shiftsOf, coarseStage, fineStage, microStage, coarse, coarseFine, shifts, noneUsableRefusal}
 use Rattle.orbit.specs.Fit.{Basis, basisOf, reportOfTrial, predictedBy, centreOf}
-use Rattle.orbit.specs.Residuals.{Inputs, propagatedBy, moved, residualOf, residuals, meanOver, squaredDeviation}
+use Rattle.orbit.specs.Residuals.{Inputs, propagatedBy, moved, liesOutside, residualOf, residuals, meanOver, squaredDeviation}
 use Rattle.orbit.specs.Passes.{middleOf, measuredOf, passOutcome, pass, passInstants, passFrequencies}
 
 -- ---- the means
@@ -50,8 +51,8 @@ pub record Own (S : List Sample) : Type 0 where
 -- ---- a list of shifts
 
 -- the trial at a place of a list of shifts
-abbrev pub place : (Float → Trial) → List Float → ℕ → Trial
-place try L j = try (getD L j nan)
+abbrev pub trialAt : (Float → Trial) → List Float → ℕ → Trial
+trialAt try L j = try (getD L j nan)
 
 -- of the places below n: i is usable, no other usable place has a smaller RMSE, and each usable place before i has a larger one
 pub record Wins (at : ℕ → Trial) (n i : ℕ) : Type 0 where
@@ -62,7 +63,7 @@ pub record Wins (at : ℕ → Trial) (n i : ℕ) : Type 0 where
 
 -- no coarse shift is usable
 abbrev pub NoCoarse : (Float → Trial) → Float → Type 0
-NoCoarse try centre = (j : ℕ) → j < length (coarse centre) → T (not (usable (place try (coarse centre) j)))
+NoCoarse try centre = (j : ℕ) → j < length (coarse centre) → T (not (usable (trialAt try (coarse centre) j)))
 
 -- a list is the steps 0 to n − 1 of a stage: start + step × increment
 pub record Steps (n : ℕ) (start increment : Float) (L : List Float) : Type 0 where
@@ -72,9 +73,9 @@ pub record Steps (n : ℕ) (start increment : Float) (L : List Float) : Type 0 w
 -- i is the first least of the coarse shifts and k that of the coarse and fine ones: the fine stage is about the shift at i, the micro stage
 -- about the shift at k
 pub record Listing (try : Float → Trial) (centre : Float) (i k : ℕ) : Type 0 where
-  pub of-coarse : Wins (place try (coarse centre)) (length (coarse centre)) i
+  pub of-coarse : Wins (trialAt try (coarse centre)) (length (coarse centre)) i
   pub then-fine : coarseFine try centre ≡ coarse centre ++ shiftsOf (fineStage (getD (coarse centre) i nan))
-  pub of-both : Wins (place try (coarseFine try centre)) (length (coarseFine try centre)) k
+  pub of-both : Wins (trialAt try (coarseFine try centre)) (length (coarseFine try centre)) k
   pub then-micro : shifts try centre ≡ coarseFine try centre ++ shiftsOf (microStage (getD (coarseFine try centre) k nan))
 
 -- ---- the shifts of a recording
@@ -87,9 +88,9 @@ tried i S = trial (residualOf i) (means S)
 abbrev pub measuredFor : List Sample → ℤ
 measuredFor S = measuredOf (means S) .instant .0
 
--- what the report says whichever shift wins
-abbrev pub basisFor : List Sample → Basis
-basisFor S = basisOf (means S) (measuredOf (means S))
+-- what the report says beside the trial that wins
+abbrev pub basisFor : Inputs → List Sample → Basis
+basisFor i S = basisOf (i .instants) (means S) (measuredOf (means S))
 
 -- the first centre
 abbrev pub centreFor : Inputs → List Sample → Float
@@ -101,7 +102,7 @@ shiftsFor i S = shifts (tried i S) (centreFor i S)
 
 -- the trial of the shift at a place of the list
 abbrev pub triedAt : Inputs → List Sample → ℕ → Trial
-triedAt i S = place (tried i S) (shiftsFor i S)
+triedAt i S = trialAt (tried i S) (shiftsFor i S)
 
 -- no coarse shift of a recording is usable
 abbrev pub NoCoarseFor : Inputs → List Sample → Type 0
@@ -161,11 +162,6 @@ positioned (answered m) = true
 abbrev pub propagates : Inputs → Float → Sample → Bool
 propagates i x m = positioned (propagatedBy i (moved (m .instant) x))
 
--- how many of some samples are such
-unfoldable pub howMany : (Sample → Bool) → List Sample → ℕ
-howMany p [] = 0
-howMany p (m ∷ ms) = cond (p m) (suc (howMany p ms)) (howMany p ms)
-
 -- "The frequency offset is the mean residual": of those that a shift leaves, in the order of the means
 abbrev pub offsetFor : Inputs → List Sample → Float → Float
 offsetFor i S x = meanOver (residuals (residualOf i x) (means S))
@@ -201,7 +197,8 @@ pub record ShiftsAre (i : Inputs) (S : List Sample) : Type 0 where
 
 -- "A report's clock offset is its shift in seconds, its frequency offset and RMSE are those of that shift over the means": the mean residual, and
 -- the root of the mean squared rest. The instant that the offset was taken about is the measured one, whose mean `CentreIs` tells; it is the fallback
--- exactly where the means have no slope below zero
+-- exactly where the means have no slope below zero. Request 2.6: "the number of means whose instant, moved by the reported shift, lies outside",
+-- of all the means, whether they can be propagated or not
 pub record Fields (i : Inputs) (S : List Sample) (x : Float) (r : Report) : Type 0 where
   pub clock-offset : r .«clock_offset» .0 ≡ x
   pub frequency-offset : r .«frequency_offset» .0 ≡ offsetFor i S x
@@ -209,13 +206,14 @@ pub record Fields (i : Inputs) (S : List Sample) (x : Float) (r : Report) : Type
   pub count-is : r .count ≡ length (means S)
   pub approach-is : r .approach .0 ≡ measuredFor S
   pub fallback-exactly : T (r .fallback) ↔ NoFall S
+  pub outside-is : r .outside ≡ howMany (λ m. liesOutside (i .instants) x (m .instant)) (means S)
 
 -- the place k of the list: it is usable, the report is that of its shift, every other usable place has at least its RMSE and every earlier usable
 -- place a larger one
 pub record Choice (i : Inputs) (S : List Sample) (k : ℕ) : Type 0 where
   pub inside : k < length (shiftsFor i S)
   pub can-be-used : T (usable (triedAt i S k))
-  pub reported : passOutcome i S ≡ answered (reportOfTrial (basisFor S) (triedAt i S k))
+  pub reported : passOutcome i S ≡ answered (reportOfTrial (basisFor i S) (triedAt i S k))
   pub least : (j : ℕ) → j < length (shiftsFor i S) → j ≢ k → T (usable (triedAt i S j)) → T (le (triedAt i S k .rmse) (triedAt i S j .rmse))
   pub first : (j : ℕ) → j < k → T (usable (triedAt i S j)) → T (lt (triedAt i S k .rmse) (triedAt i S j .rmse))
 

@@ -15,7 +15,7 @@ use Rattle.float.specs.Conversions.{nearestOf}
 use Rattle.float.specs.Signs.{magnitudeOf}
 use Rattle.common.specs.Outcome.{Outcome, refused, answered, unlessRefused}
 use Rattle.checks.specs.Entries.{firstFailing, fitChecks}
-use Rattle.samples.specs.Means.{Sample, recording}
+use Rattle.samples.specs.Means.{Sample, recording, instants}
 use Rattle.samples.specs.Approach.{gapOf}
 use Rattle.orbit.specs.declared.stages.Stage.{Stage}
 use Rattle.orbit.specs.declared.fit.Measured.{Measured}
@@ -23,7 +23,7 @@ use Rattle.orbit.specs.declared.fit.Report.{Report}
 use Rattle.orbit.specs.declared.fit.FitAnswer.{FitAnswer}
 use Rattle.orbit.specs.declared.fit.FitAnswer.the-variants.{Reported, Refused}
 use Rattle.orbit.specs.Closest.{closestInstant}
-use Rattle.orbit.specs.Residuals.{Inputs, Residual, residualOf, residuals, meanOver, squaredDeviation}
+use Rattle.orbit.specs.Residuals.{Inputs, Residual, residualOf, residuals, meanOver, squaredDeviation, outsideCount}
 
 -- a shift in seconds with its frequency offset and RMSE in hertz, and whether enough samples are left
 pub record Trial : Type 0 where
@@ -115,18 +115,20 @@ module _ (try : Float → Trial) (centre : Float) where
 
 -- ---- the outcome
 
--- what a report says whichever shift wins: how many samples were fitted, and the instant that the offset was taken about with whether it was the
--- fallback
+-- what a report says beside the trial that wins: how many samples were fitted, the instant that the offset was taken about with whether it was the
+-- fallback, and for each shift how many of the samples lie outside the table once moved by it
 pub record Basis : Type 0 where
   pub count : ℕ
   pub measured : Measured
+  pub outsideCount : Float → ℕ
 
--- that of a fit of samples about a measured instant
-abbrev pub basisOf : List Sample → Measured → Basis
-basisOf S measured = record { count = length S; measured = measured }
+-- that of a fit of samples to a table, by the instants of its coordinates, about a measured instant
+abbrev pub basisOf : List ℤ → List Sample → Measured → Basis
+basisOf coordinates S measured = record { count = length S; measured = measured; outsideCount = outsideCount coordinates (instants S) }
 
 -- "the three doubles and the count"; request 2.4: "The report carries that instant, the fallback to the middle mean included, and a yes or no
--- whether it was the fallback". A report is made here alone
+-- whether it was the fallback"; request 2.6: it "gains the number of means whose instant, moved by the reported shift, lies outside". A report is
+-- made here alone
 abbrev pub reportOf : Basis → Float → Float → Float → Report
 reportOf basis shift frequencyOffset rmse = record {
   «clock_offset» = record { 0 = shift };
@@ -135,6 +137,7 @@ reportOf basis shift frequencyOffset rmse = record {
   count = basis .count;
   approach = basis .measured .instant;
   fallback = basis .measured .fallback;
+  outside = basis .outsideCount shift;
 }
 
 -- the report of a trial
@@ -164,7 +167,7 @@ centreOf i measured = gapOf (predictedBy i measured) measured
 
 -- the fit of samples about a measured instant
 abbrev pub fitOf : Inputs → List Sample → Measured → Outcome Report
-fitOf i S measured = fitByTrials (trial (residualOf i) S) (basisOf S measured) (centreOf i (measured .instant .0))
+fitOf i S measured = fitByTrials (trial (residualOf i) S) (basisOf (i .instants) S measured) (centreOf i (measured .instant .0))
 
 -- ---- the entry: checks 1, 2, 4, 5, 6, 7, then 10
 

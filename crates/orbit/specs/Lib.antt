@@ -1,5 +1,6 @@
--- The definitions of orbit: window and model, propagation, closest approach, residuals, fit, pass, and what demand 3 says;
--- for inner functions, bounds and stages.
+-- The definitions of orbit: the place of an instant, window and model, propagation, closest approach, residuals, fit, pass, and what demand 3 says;
+-- for inner functions, bounds and stages; and cases by computation.
+pub mod Place
 pub mod Window
 pub mod Propagation
 pub mod Closest
@@ -9,3 +10,4 @@ pub mod Passes
 pub mod Bounds
 pub mod Stages
 pub mod Demand3
+pub mod Cases

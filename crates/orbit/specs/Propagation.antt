@@ -10,8 +10,11 @@ use Rattle.units.specs.declared.Velocity.{Velocity}
 use Rattle.common.specs.Outcome.{Outcome, refused, answered, mapped, outcome, unlessRefused}
 use Rattle.checks.specs.Entries.{firstFailing, evaluationChecks, propagationChecks}
 use Rattle.orbit.specs.declared.window.ChebyshevOrbit.{ChebyshevOrbit}
+use Rattle.orbit.specs.declared.propagation.MotionAnswer.{MotionAnswer}
+use Rattle.orbit.specs.declared.propagation.MotionAnswer.the-variants as motion
 use Rattle.orbit.specs.declared.propagation.Propagation.{Propagation}
-use Rattle.orbit.specs.declared.propagation.Propagation.the-variants.{At, Refused}
+use Rattle.orbit.specs.declared.propagation.Propagation.the-variants as propagation
+use Rattle.orbit.specs.Place.{Located, located}
 use Rattle.orbit.specs.Window.{secondsOf, tauOf, evenTolerance, modelAbout}
 use Rattle.common.specs.Numbers.{two}
 
@@ -56,11 +59,17 @@ propagated tolerance instants positions t = mapped (λ m. motionAt m t) (modelAb
 abbrev pub evaluate : ChebyshevOrbit → ℤ → Outcome Motion
 evaluate m t = outcome (firstFailing (evaluationChecks t)) (motionAt m t)
 
--- checks 1, 4, 5, 6, then 8
-abbrev pub propagateEcef : List ℤ → List Float → ℤ → Outcome Motion
-propagateEcef instants positions t = unlessRefused (firstFailing (propagationChecks instants positions t)) (propagated evenTolerance instants positions t)
+-- checks 1, 4, 5, 6, then 8. Request 2.6: "Propagation says beside its position" where the instant lies
+abbrev pub propagateEcef : List ℤ → List Float → ℤ → Outcome (Located Motion)
+propagateEcef instants positions t =
+    unlessRefused (firstFailing (propagationChecks instants positions t)) (mapped (located instants t) (propagated evenTolerance instants positions t))
 
--- the paper's number and values of each case of the answer
-abbrev pub motionIn : Propagation → Outcome Motion
-motionIn (At p v) = answered (record { position = p; velocity = v })
-motionIn (Refused n) = refused n
+-- the paper's number and values of each case of `evaluate`'s answer
+abbrev pub motionIn : MotionAnswer → Outcome Motion
+motionIn (motion.At p v) = answered (record { position = p; velocity = v })
+motionIn (motion.Refused n) = refused n
+
+-- and of `propagate_ecef`'s
+abbrev pub propagationIn : Propagation → Outcome (Located Motion)
+propagationIn (propagation.At p v place) = answered (record { answer = record { position = p; velocity = v }; place = place })
+propagationIn (propagation.Refused n) = refused n

@@ -1,4 +1,7 @@
--- The residuals of a recording under a shift of its clock, and their means. Instants are nanoseconds, shifts seconds, frequencies hertz.
+-- The residuals of a recording under a shift of its clock, and their means; and how many of its instants lie outside the table then. Instants are
+-- nanoseconds, shifts seconds, frequencies hertz.
+use Prim.Native.Nat.{ℕ}
+use mathlib.Core.Bool.{Bool}
 use mathlib.Core.List.{List, [], _∷_}
 use lib.IntN.{ℤ, pos, _-ℤ_, _*ℤ_}
 use lib.ListN.{length}
@@ -7,6 +10,7 @@ use Rattle.common.specs.Rounded.{_⊕_, _⊖_, _⊗_, _⊘_}
 use Rattle.common.specs.Numbers.{minusZero, one, million, lightSpeed}
 use Rattle.common.specs.Sums.{sumFrom}
 use Rattle.common.specs.Time.{microsecond}
+use Rattle.common.specs.Lists.{howMany}
 use Rattle.float.specs.Root.{root}
 use Rattle.float.specs.Conversions.{nearestOf, truncatedOf}
 use Rattle.units.specs.declared.Seconds.{Seconds}
@@ -15,6 +19,7 @@ use Rattle.units.specs.declared.Observer.{Observer}
 use Rattle.common.specs.Outcome.{Outcome, refused, answered}
 use Rattle.samples.specs.Means.{Sample}
 use Rattle.orbit.specs.declared.settings.Settings.{Settings}
+use Rattle.orbit.specs.Place.{placeOf, isOutside}
 use Rattle.orbit.specs.Propagation.{Motion, propagated}
 use Rattle.orbit.specs.Closest.{squared, squaredRange}
 
@@ -45,6 +50,14 @@ wholeMicroseconds shift = truncatedOf (shift ⊗ million)
 -- "A candidate moves each sample earlier by its shift in whole microseconds"
 abbrev pub moved : ℤ → Float → ℤ
 moved t shift = t -ℤ wholeMicroseconds shift *ℤ pos microsecond
+
+-- whether an instant, so moved, "lies outside" a table whose coordinates have these instants
+abbrev pub liesOutside : List ℤ → Float → ℤ → Bool
+liesOutside coordinates shift t = isOutside (placeOf coordinates (moved t shift))
+
+-- how many instants of samples or means lie outside once a shift has moved them, whether they have a position there or not
+abbrev pub outsideCount : List ℤ → List ℤ → Float → ℕ
+outsideCount coordinates ts shift = howMany (liesOutside coordinates shift) ts
 
 -- how fast the range grows, in metres for each second; a zero range makes a NaN
 abbrev pub rangeRate : Observer → Motion → Float

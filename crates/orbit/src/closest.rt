@@ -7,7 +7,9 @@ ghost use Rattle.checks.specs.Limits.{farthestInstant};
 ghost use Rattle.checks.specs.Checked.{Table};
 ghost use Rattle.orbit.specs.Bounds.{reach, farthestOffset};
 ghost use Rattle.orbit.specs.Closest.{squaredRange, movedBySeconds, nearer, offsetAt, ranged, ranges, closestInstant, findPcaTime, closestIn};
-use crate::propagation::Propagation;
+use crate::place::Place;
+use crate::place::place_of;
+use crate::propagation::MotionAnswer;
 use crate::propagation::propagate_at;
 use crate::settings::EVEN_TOLERANCE;
 use checks::refuse_closest;
@@ -18,9 +20,9 @@ use units::Position;
 use units::SECOND;
 use units::Seconds;
 
-// The instant of the closest approach, or the refusal (1, 4, 5, 6).
+// The instant of the closest approach and where it lies in respect of the table, or the refusal (1, 4, 5, 6).
 pub enum ClosestApproach {
-    At(Nanoseconds),
+    At(Nanoseconds, Place),
     Refused(u8),
 }
 
@@ -89,7 +91,7 @@ fn nearer_at(
     ensures { λ r. ⌜ r ≡ betterOf nearer best (ranged tolerance (now (instants .entry)) (now (positions .entry)) observer (around .0) offset) ⌝ }
 {
     let t = moved_by_seconds(around, offset);
-    let Propagation::At(p, _) = propagate_at(instants, positions, t, tolerance) else {
+    let MotionAnswer::At(p, _) = propagate_at(instants, positions, t, tolerance) else {
         return best;
     };
     let range = squared_range(p, observer);
@@ -175,7 +177,7 @@ pub(crate) fn closest_at(
     moved_by_seconds(around, by_seconds.offset)
 }
 
-// The instant of the closest approach to the observer about an instant.
+// The instant of the closest approach to the observer about an instant, and where that instant lies.
 pub fn find_pca_time(
     instants: &[i64],
     positions: &[f64],
@@ -188,5 +190,6 @@ pub fn find_pca_time(
     if refusal != 0 {
         return ClosestApproach::Refused(refusal);
     }
-    ClosestApproach::At(closest_at(instants, positions, observer, instant, EVEN_TOLERANCE))
+    let found = closest_at(instants, positions, observer, instant, EVEN_TOLERANCE);
+    ClosestApproach::At(found, place_of(instants, found))
 }

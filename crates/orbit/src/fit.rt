@@ -11,6 +11,7 @@ ghost use Rattle.orbit.specs.Window.{evenTolerance};
 ghost use Rattle.orbit.specs.Residuals.{settingsOf, inputsOf};
 ghost use Rattle.orbit.specs.Fit.{fitOf, fitSatellite, fitIn};
 use crate::closest::closest_at;
+use crate::residuals::count_outside;
 use crate::settings::EVEN_TOLERANCE;
 use crate::settings::Settings;
 use crate::stages::coarse_stage;
@@ -28,6 +29,7 @@ use units::Seconds;
 
 // Clock offset, frequency offset, RMSE of the residuals, how many samples or means were fitted, the instant that the offset was taken about, and
 // whether that is the fallback: the middle mean's, since no slope of the means is below zero. A fit that is given its instant reports that, and no.
+// Last, how many of the samples or means, moved by the clock offset as the fit moved them, lie outside the table.
 pub struct Report {
     pub clock_offset: Seconds,
     pub frequency_offset: Hertz,
@@ -35,6 +37,7 @@ pub struct Report {
     pub count: usize,
     pub approach: Nanoseconds,
     pub fallback: bool,
+    pub outside: usize,
 }
 
 // The report, or the refusal (1 to 7, 10).
@@ -108,6 +111,7 @@ pub(crate) fn fit_about(
     let rmse = best.rmse;
     let approach = measured.instant;
     let fallback = measured.fallback;
+    let outside = count_outside(instants, samples, clock_offset);
     FitAnswer::Reported(Report {
         clock_offset,
         frequency_offset,
@@ -115,6 +119,7 @@ pub(crate) fn fit_about(
         count: samples.len(),
         approach,
         fallback,
+        outside,
     })
 }
 

@@ -2,6 +2,7 @@
 mod closest;
 mod fit;
 mod passes;
+mod place;
 mod propagation;
 mod residuals;
 mod settings;
@@ -14,6 +15,8 @@ pub use fit::FitAnswer;
 pub use fit::Report;
 pub use fit::fit_satellite;
 pub use passes::pass;
+pub use place::Place;
+pub use propagation::MotionAnswer;
 pub use propagation::Propagation;
 pub use propagation::evaluate;
 pub use propagation::propagate_ecef;

@@ -2,7 +2,9 @@
 ghost use mathlib.Core.Path.{_≡_};
 ghost use Rattle.common.specs.Outcome.{answered};
 ghost use Rattle.checks.specs.Checked.{Table};
-ghost use Rattle.orbit.specs.Propagation.{motionAt, motionIn, propagated, evaluate, propagateEcef};
+ghost use Rattle.orbit.specs.Propagation.{motionAt, motionIn, propagated, evaluate, propagateEcef, propagationIn};
+use crate::place::Place;
+use crate::place::place_of;
 use crate::settings::EVEN_TOLERANCE;
 use crate::window::ChebyshevOrbit;
 use crate::window::model_at;
@@ -18,14 +20,20 @@ use units::Position;
 use units::Seconds;
 use units::Velocity;
 
-// Position in metres and velocity in metres for each second, or the refusal (1, 4, 5, 6, 8).
-pub enum Propagation {
+// Position in metres and velocity in metres for each second, or the refusal (4 of `evaluate`, 8 of a window).
+pub enum MotionAnswer {
     At(Position, Velocity),
     Refused(u8),
 }
 
+// Position and velocity by a table, and where the instant lies in respect of it, or the refusal (1, 4, 5, 6, 8).
+pub enum Propagation {
+    At(Position, Velocity, Place),
+    Refused(u8),
+}
+
 // Position and velocity by a model: any instant has them.
-pub(crate) fn motion_at(orbit: ChebyshevOrbit, t: Nanoseconds) -> Propagation
+pub(crate) fn motion_at(orbit: ChebyshevOrbit, t: Nanoseconds) -> MotionAnswer
     ensures { λ r. ⌜ motionIn r ≡ answered (motionAt orbit (t .0)) ⌝ }
 {
     let tau = tau_of(orbit.t0, orbit.t9, seconds_of(t));
@@ -36,7 +44,7 @@ pub(crate) fn motion_at(orbit: ChebyshevOrbit, t: Nanoseconds) -> Propagation
     let cx = orbit.cx;
     let cy = orbit.cy;
     let cz = orbit.cz;
-    Propagation::At(
+    MotionAnswer::At(
         Position {
             x: weighted_sum(cx, values),
             y: weighted_sum(cy, values),
@@ -56,37 +64,41 @@ pub(crate) fn propagate_at(
     positions: &[f64],
     t: Nanoseconds,
     tolerance: Seconds,
-) -> Propagation
+) -> MotionAnswer
     requires { ⌜ Table (now instants) (now positions) ⌝ }
     ensures { λ r. ⌜ motionIn r ≡ propagated tolerance (now (instants .entry)) (now (positions .entry)) (t .0) ⌝ }
 {
     let model = model_at(instants, positions, window_start(instants, t), tolerance);
     let refusal = model.refusal;
     if refusal != 0 {
-        return Propagation::Refused(refusal);
+        return MotionAnswer::Refused(refusal);
     }
     let orbit = model.orbit;
     motion_at(orbit, t)
 }
 
 // Position and velocity by a model at an instant.
-pub fn evaluate(orbit: ChebyshevOrbit, instant: Nanoseconds) -> Propagation
+pub fn evaluate(orbit: ChebyshevOrbit, instant: Nanoseconds) -> MotionAnswer
     ensures { λ r. ⌜ motionIn r ≡ evaluate orbit (instant .0) ⌝ }
 {
     let refusal = refuse_evaluation(instant);
     if refusal != 0 {
-        return Propagation::Refused(refusal);
+        return MotionAnswer::Refused(refusal);
     }
     motion_at(orbit, instant)
 }
 
-// Position and velocity by a table at an instant, extrapolated outside it.
+// Position and velocity by a table at an instant, extrapolated outside it, and where the instant lies.
 pub fn propagate_ecef(instants: &[i64], positions: &[f64], instant: Nanoseconds) -> Propagation
-    ensures { λ r. ⌜ motionIn r ≡ propagateEcef (now (instants .entry)) (now (positions .entry)) (instant .0) ⌝ }
+    ensures { λ r. ⌜ propagationIn r ≡ propagateEcef (now (instants .entry)) (now (positions .entry)) (instant .0) ⌝ }
 {
     let refusal = refuse_propagation(instants, positions, instant);
     if refusal != 0 {
         return Propagation::Refused(refusal);
     }
-    propagate_at(instants, positions, instant, EVEN_TOLERANCE)
+    let motion = propagate_at(instants, positions, instant, EVEN_TOLERANCE);
+    match motion {
+        MotionAnswer::At(p, v) => Propagation::At(p, v, place_of(instants, instant)),
+        MotionAnswer::Refused(singular) => Propagation::Refused(singular),
+    }
 }

@@ -1,9 +1,9 @@
-// The residuals of a recording under a shift of its clock, and their sums.
+// The residuals of a recording under a shift of its clock, and their sums; and how many of its instants lie outside the table then.
 ghost use mathlib.Core.Path.{_≡_};
 ghost use mathlib.Core.List.{[], _++_, map};
-ghost use Prim.Native.Nat.{_+_, _<_, _≤_};
+ghost use Prim.Native.Nat.{ℕ, _+_, _<_, _≤_};
 ghost use lib.IntN.{pos, natAbs, _-ℤ_, _*ℤ_};
-ghost use lib.ListN.{length, take};
+ghost use lib.ListN.{length, getD, take};
 ghost use Rattle.float.specs.Bounds.{Within};
 ghost use Rattle.checks.specs.Limits.{farthestInstant};
 ghost use Rattle.samples.specs.Means.{recording};
@@ -12,9 +12,11 @@ ghost use Rattle.common.specs.Sums.{sumFrom};
 ghost use Rattle.orbit.specs.Bounds.{FitAreas, farthestShift, farthestMicros};
 ghost use Rattle.checks.specs.Checked.{Table};
 ghost use Rattle.orbit.specs.Propagation.{propagated};
-ghost use Rattle.orbit.specs.Residuals.{wholeMicroseconds, residualAt, residualIn, keep, inputsOf, residuals, residualOf, squaredDeviation};
+ghost use Rattle.orbit.specs.Residuals.{wholeMicroseconds, residualAt, residualIn, keep, inputsOf, residuals, residualOf, outsideCount, squaredDeviation};
 ghost use Rattle.common.specs.Numbers.{minusZero};
-use crate::propagation::Propagation;
+use crate::place::is_outside;
+use crate::place::place_of;
+use crate::propagation::MotionAnswer;
 use crate::propagation::propagate_at;
 use crate::settings::Settings;
 use float::sqrt;
@@ -71,7 +73,7 @@ fn push_residual(
         (residualIn settings (frequency .0) (propagated (settings .tolerance) (now (instants .entry)) (now (positions .entry)) (t .0))) [])
         ⌝ }
 {
-    let Propagation::At(p, v) = propagate_at(instants, positions, t, settings.tolerance) else {
+    let MotionAnswer::At(p, v) = propagate_at(instants, positions, t, settings.tolerance) else {
         return count;
     };
     let residual = residual_at(p, v, settings, frequency);
@@ -102,6 +104,22 @@ pub(crate) fn collect_residuals(
         let frequency = Hertz(frequencies[i]);
         let more = push_residual(instants, positions, settings, t, frequency, values, count);
         count = more;
+    }
+    count
+}
+
+// How many of the samples' instants, moved earlier by a shift as the fit moved them, lie outside the table, whether they have a position there or not.
+pub(crate) fn count_outside(instants: &[i64], samples: &[i64], shift: Seconds) -> usize
+    requires { ⌜ (0 < length (now instants)) × ((k : ℕ) → natAbs (getD (now samples) k (pos 0)) ≤ farthestInstant) × Within farthestShift (shift .0) ⌝ }
+    ensures { λ r. ⌜ r ≡ outsideCount (now (instants .entry)) (now (samples .entry)) (shift .0) ⌝ }
+{
+    let micros = microseconds_of(shift);
+    let mut count: usize = 0;
+    for i in 0..samples.len() {
+        let t = moved_earlier(Nanoseconds(samples[i]), micros);
+        if is_outside(place_of(instants, t)) {
+            count += 1;
+        }
     }
     count
 }

@@ -23,6 +23,7 @@ use Rattle.board.specs.declared.entries.Entry.{Entry}
 use Rattle.board.specs.Board.{boardRefusal, boardOffset, fleetBoard}
 use Rattle.orbit.specs.declared.window.ChebyshevOrbit.{ChebyshevOrbit}
 use Rattle.orbit.specs.Window.{evenTolerance, windowStart, windowSeconds, inversionOf, modelAbout, getChebyshevModel}
+use Rattle.orbit.specs.Place.{located}
 use Rattle.orbit.specs.Propagation.{motionAt, evaluate, propagateEcef}
 use Rattle.orbit.specs.Closest.{closestInstant, findPcaTime}
 use Rattle.orbit.specs.Residuals.{Inputs, residualOf}
@@ -80,10 +81,11 @@ evaluation-told m t = by-checks (firstFailing (evaluationChecks t)) (motionAt m 
 pub propagation-told : (instants : List ℤ) (positions : List Float) (t : ℤ) → Told (propagateEcef instants positions t)
 propagation-told instants positions t =
     let m = modelAbout evenTolerance instants positions t in
-    after-checks (firstFailing (propagationChecks instants positions t)) (mapped (λ x. motionAt x t) m) (by-answer (λ x. motionAt x t) m (about instants positions t))
+    let found = mapped (λ x. motionAt x t) m in
+    after-checks (firstFailing (propagationChecks instants positions t)) (mapped (located instants t) found) (by-answer (located instants t) found (by-answer (λ x. motionAt x t) m (about instants positions t)))
 
 pub closest-told : (instants : List ℤ) (positions : List Float) (o : Observer) (t : ℤ) → Told (findPcaTime instants positions o t)
-closest-told instants positions o t = by-checks (firstFailing (closestChecks instants positions o t)) (closestInstant evenTolerance instants positions o t)
+closest-told instants positions o t = let found = closestInstant evenTolerance instants positions o t in by-checks (firstFailing (closestChecks instants positions o t)) (located instants found found)
 
 pub means-told : (ts : List ℤ) (fs : List Float) (is : List ℤ) (hs : List Float) → Told (downsampleData ts fs is hs)
 means-told ts fs is hs = by-checks (downsampleRefusal ts fs is hs) (length (means (recording ts fs)))
@@ -97,12 +99,12 @@ steepest-told ts fs = by-checks (firstFailing (samplesChecks ts fs)) (leastSlope
 pub fit-told : (i : Inputs) (ts : List ℤ) (fs : List Float) (measured : ℤ) → Told (fitSatellite i ts fs measured)
 fit-told i ts fs measured =
     after-checks (firstFailing (fitChecks (i .instants) (i .positions) ts fs (i .settings .observer) (i .settings .f0) measured)) (fitOf i (recording ts fs) (given measured))
-    (by-fit (trial (residualOf i) (recording ts fs)) (basisOf (recording ts fs) (given measured)) (centreOf i measured))
+    (by-fit (trial (residualOf i) (recording ts fs)) (basisOf (i .instants) (recording ts fs) (given measured)) (centreOf i measured))
 
 pub pass-told : (i : Inputs) (ts : List ℤ) (fs : List Float) (is : List ℤ) (hs : List Float) → Told (pass i ts fs is hs)
 pass-told i ts fs is hs =
     let M = means (recording ts fs) in
-    after-checks (passRefusal i ts fs is hs) (passOutcome i (recording ts fs)) (by-fit (trial (residualOf i) M) (basisOf M (measuredOf M)) (centreOf i (measuredOf M .instant .0)))
+    after-checks (passRefusal i ts fs is hs) (passOutcome i (recording ts fs)) (by-fit (trial (residualOf i) M) (basisOf (i .instants) M (measuredOf M)) (centreOf i (measuredOf M .instant .0)))
 
 pub sp3-told : (bytes satellite : List ℕ) (leaps : LeapSeconds) (is : List ℤ) (ps : List Float) → Told (readSp3 bytes satellite leaps is ps)
 sp3-told bytes satellite leaps is ps = by-checks (sp3Refusal bytes satellite leaps is ps) (length (recordsOf bytes satellite leaps))

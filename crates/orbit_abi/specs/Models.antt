@@ -1,5 +1,5 @@
 -- A model as C lends it: 32 doubles, t0, t9, then ten coefficients each of x, y and z; and a motion: position and velocity, x, y, z each;
--- and a report: clock offset, frequency offset, RMSE; and whether its instant is the fallback, as a number.
+-- and a report: clock offset, frequency offset, RMSE; and whether its instant is the fallback, and where an instant lies, as numbers.
 -- Assumes nothing.
 use Prim.Native.Nat.{ℕ, _+_, _-_}
 use mathlib.Core.Bool.{cond}
@@ -13,6 +13,8 @@ use Rattle.units.specs.declared.Metres.{Metres}
 use Rattle.units.specs.declared.Hertz.{Hertz}
 use Rattle.units.specs.declared.Observer.{Observer}
 use Rattle.orbit.specs.declared.fit.Report.{Report}
+use Rattle.orbit.specs.declared.place.Place.{Place}
+use Rattle.orbit.specs.declared.place.Place.the-variants.{Before, Within, After}
 use Rattle.orbit.specs.declared.window.ChebyshevOrbit.{ChebyshevOrbit}
 use Rattle.orbit.specs.Window.{evenTolerance}
 use Rattle.orbit.specs.Propagation.{Motion}
@@ -41,6 +43,12 @@ modelIn xs = record { t0 = record { 0 = getD xs 0 nan }; t9 = record { 0 = getD 
 -- position and velocity, x, y, z each
 abbrev pub motionNumbers : Motion → List Float
 motionNumbers m = m .position .x ∷ m .position .y ∷ m .position .z ∷ m .velocity .x ∷ m .velocity .y ∷ m .velocity .z ∷ []
+
+-- before the first coordinate 0, from the first to the last 1, after the last 2
+abbrev pub placeNumber : Place → ℕ
+placeNumber Before = 0
+placeNumber Within = 1
+placeNumber After = 2
 
 -- clock offset in seconds, frequency offset and RMSE in hertz
 abbrev pub reportNumbers : Report → List Float

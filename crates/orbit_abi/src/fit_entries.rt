@@ -11,19 +11,22 @@ use units::Metres;
 use units::Nanoseconds;
 use units::Observer;
 
-// A report's three numbers, its count, its instant in nanoseconds and whether that is the fallback (1 yes, 0 no) into their areas, or the refusal.
+// A report's three numbers, its count, its instant in nanoseconds, whether that is the fallback (1 yes, 0 no) and how many lie outside the table into
+// their areas, or the refusal.
 fn report_into(
     found: FitAnswer,
     report: &mut [f64; 3],
     count: &mut u64,
     approach: &mut i64,
     fallback: &mut u8,
+    outside: &mut u64,
 ) -> u8
     ensures { λ r. ⌜ (r ≡ refusalIn (fitIn found))
         × (now (report .exit) ≡ areaOf reportNumbers (fitIn found) (now (report .entry)))
         × (now (count .exit) ≡ areaOf (λ (x : Report). x .count) (fitIn found) (now (count .entry)))
         × (now (approach .exit) ≡ areaOf (λ (x : Report). x .approach .0) (fitIn found) (now (approach .entry)))
         × (now (fallback .exit) ≡ areaOf fallbackNumber (fitIn found) (now (fallback .entry)))
+        × (now (outside .exit) ≡ areaOf (λ (x : Report). x .outside) (fitIn found) (now (outside .entry)))
         ⌝ }
 {
     match found {
@@ -34,6 +37,7 @@ fn report_into(
             let nanoseconds = f.approach.0;
             *approach = nanoseconds;
             *fallback = f.fallback as u8;
+            *outside = f.outside as u64;
             0
         }
         FitAnswer::Refused(refusal) => refusal,
@@ -41,7 +45,7 @@ fn report_into(
 }
 
 // Clock offset (seconds), frequency offset and RMSE (hertz) of samples about the instant of the measured approach, how many samples there are, and
-// that instant (nanoseconds) again, which never is the fallback.
+// that instant (nanoseconds) again, which never is the fallback; and how many of the samples, moved by the clock offset, lie outside the table.
 #[no_mangle]
 pub extern "C" fn orbit_fit_satellite(
     instants: &[i64],
@@ -57,6 +61,7 @@ pub extern "C" fn orbit_fit_satellite(
     count: &mut u64,
     approach: &mut i64,
     fallback: &mut u8,
+    outside: &mut u64,
 ) -> u8
     ensures { λ r. ⌜ r ≡ refusalIn (fitSatellite
         (inputsIn (now (instants .entry)) (now (positions .entry)) ox oy oz f0)
@@ -78,6 +83,10 @@ pub extern "C" fn orbit_fit_satellite(
         (inputsIn (now (instants .entry)) (now (positions .entry)) ox oy oz f0)
         (now (samples .entry)) (now (frequencies .entry)) (measured .0)) (now (fallback .entry))
         ⌝ }
+    ensures { λ r. ⌜ now (outside .exit) ≡ areaOf (λ (x : Report). x .outside) (fitSatellite
+        (inputsIn (now (instants .entry)) (now (positions .entry)) ox oy oz f0)
+        (now (samples .entry)) (now (frequencies .entry)) (measured .0)) (now (outside .entry))
+        ⌝ }
 {
     let observer = Observer {
         x: ox,
@@ -93,12 +102,12 @@ pub extern "C" fn orbit_fit_satellite(
         f0,
         measured,
     );
-    report_into(found, report, count, approach, fallback)
+    report_into(found, report, count, approach, fallback, outside)
 }
 
 // Clock offset (seconds), frequency offset and RMSE (hertz) of a recording's one-second means, how many means there are, and the instant (nanoseconds)
-// that the offset was taken about, with whether it is the fallback, the middle mean's (1 yes, 0 no). The means go to the front of their two areas, and
-// stay there under refusal 10.
+// that the offset was taken about, with whether it is the fallback, the middle mean's (1 yes, 0 no); and how many of the means, moved by the clock
+// offset, lie outside the table. The means go to the front of their two areas, and stay there under refusal 10.
 #[no_mangle]
 pub extern "C" fn orbit_pass(
     instants: &[i64],
@@ -115,6 +124,7 @@ pub extern "C" fn orbit_pass(
     count: &mut u64,
     approach: &mut i64,
     fallback: &mut u8,
+    outside: &mut u64,
 ) -> u8
     ensures { λ r. ⌜ r ≡ refusalIn (pass
         (inputsIn (now (instants .entry)) (now (positions .entry)) ox oy oz f0)
@@ -135,6 +145,10 @@ pub extern "C" fn orbit_pass(
     ensures { λ r. ⌜ now (fallback .exit) ≡ areaOf fallbackNumber (pass
         (inputsIn (now (instants .entry)) (now (positions .entry)) ox oy oz f0)
         (now (samples .entry)) (now (frequencies .entry)) (now («mean_instants» .entry)) (now («mean_frequencies» .entry))) (now (fallback .entry))
+        ⌝ }
+    ensures { λ r. ⌜ now (outside .exit) ≡ areaOf (λ (x : Report). x .outside) (pass
+        (inputsIn (now (instants .entry)) (now (positions .entry)) ox oy oz f0)
+        (now (samples .entry)) (now (frequencies .entry)) (now («mean_instants» .entry)) (now («mean_frequencies» .entry))) (now (outside .entry))
         ⌝ }
     ensures { λ r. ⌜ now («mean_instants» .exit) ≡ passInstants
         (inputsIn (now (instants .entry)) (now (positions .entry)) ox oy oz f0)
@@ -160,5 +174,5 @@ pub extern "C" fn orbit_pass(
         mean_instants,
         mean_frequencies,
     );
-    report_into(found, report, count, approach, fallback)
+    report_into(found, report, count, approach, fallback, outside)
 }

@@ -4,16 +4,21 @@ ghost use Prim.Native.Nat.{_<_, _≤_};
 ghost use lib.IntN.{ℤ};
 ghost use Rattle.common.specs.Outcome.{refusalIn, areaOf};
 ghost use Rattle.orbit.specs.Window.{getChebyshevModel};
-ghost use Rattle.orbit.specs.Propagation.{evaluate, propagateEcef, motionIn};
+ghost use Rattle.orbit.specs.Place.{Located};
+ghost use Rattle.orbit.specs.Propagation.{Motion, evaluate, propagateEcef};
 ghost use Rattle.orbit.specs.Closest.{findPcaTime};
-ghost use Rattle.orbit_abi.specs.Models.{modelNumber, modelNumbers, rowFrom, modelIn, motionNumbers, observerOf};
+ghost use Rattle.orbit_abi.specs.Models.{modelNumber, modelNumbers, rowFrom, modelIn, motionNumbers, placeNumber, observerOf};
 use orbit::ChebyshevOrbit;
 use orbit::ClosestApproach;
+use orbit::MotionAnswer;
+use orbit::Place;
 use orbit::Propagation;
 use units::Metres;
 use units::Nanoseconds;
 use units::Observer;
+use units::Position;
 use units::Seconds;
+use units::Velocity;
 
 // Number k of a model: its end times, then the coefficients of x, y and z.
 fn model_number(orbit: ChebyshevOrbit, k: usize) -> f64
@@ -99,17 +104,21 @@ pub extern "C" fn orbit_get_chebyshev_model(
     refusal
 }
 
-// A motion's six numbers into the area, or the refusal.
-fn motion_into(found: Propagation, out: &mut [f64; 6]) -> u8
-    ensures { λ r. ⌜ (r ≡ refusalIn (motionIn found)) × (now (out .exit) ≡ areaOf motionNumbers (motionIn found) (now (out .entry))) ⌝ }
+// The six numbers of a position and a velocity: x, y, z each.
+fn motion_numbers(p: Position, v: Velocity) -> [f64; 6]
+    ensures { λ r. ⌜ r ≡ motionNumbers (record { position = p; velocity = v }) ⌝ }
 {
-    match found {
-        Propagation::At(p, v) => {
-            let six = [p.x, p.y, p.z, v.x, v.y, v.z];
-            *out = six;
-            0
-        }
-        Propagation::Refused(refusal) => refusal,
+    [p.x, p.y, p.z, v.x, v.y, v.z]
+}
+
+// The number of a place.
+fn place_number(place: Place) -> u8
+    ensures { λ r. ⌜ r ≡ placeNumber place ⌝ }
+{
+    match place {
+        Place::Before => 0,
+        Place::Within => 1,
+        Place::After => 2,
     }
 }
 
@@ -120,25 +129,48 @@ pub extern "C" fn orbit_evaluate(model: &[f64; 32], instant: Nanoseconds, out: &
         × (now (out .exit) ≡ areaOf motionNumbers (evaluate (modelIn (now (model .entry))) (instant .0)) (now (out .entry)))
         ⌝ }
 {
-    motion_into(orbit::evaluate(model_of(model), instant), out)
+    let evaluation = orbit::evaluate(model_of(model), instant);
+    match evaluation {
+        MotionAnswer::At(p, v) => {
+            let six = motion_numbers(p, v);
+            *out = six;
+            0
+        }
+        MotionAnswer::Refused(refusal) => refusal,
+    }
 }
 
-// Position (metres) and velocity (metres for each second) by a table at an instant: x, y, z each.
+// Position (metres) and velocity (metres for each second) by a table at an instant: x, y, z each; and where the instant lies (0 before the first
+// coordinate, 1 from the first to the last, 2 after the last).
 #[no_mangle]
 pub extern "C" fn orbit_propagate_ecef(
     instants: &[i64],
     positions: &[f64],
     instant: Nanoseconds,
     out: &mut [f64; 6],
+    place: &mut u8,
 ) -> u8
     ensures { λ r. ⌜ (r ≡ refusalIn (propagateEcef (now (instants .entry)) (now (positions .entry)) (instant .0)))
-        × (now (out .exit) ≡ areaOf motionNumbers (propagateEcef (now (instants .entry)) (now (positions .entry)) (instant .0)) (now (out .entry)))
+        × (now (out .exit) ≡ areaOf (λ (x : Located Motion). motionNumbers (x .answer))
+        (propagateEcef (now (instants .entry)) (now (positions .entry)) (instant .0)) (now (out .entry)))
+        × (now (place .exit) ≡ areaOf (λ (x : Located Motion). placeNumber (x .place))
+        (propagateEcef (now (instants .entry)) (now (positions .entry)) (instant .0)) (now (place .entry)))
         ⌝ }
 {
-    motion_into(orbit::propagate_ecef(instants, positions, instant), out)
+    let propagation = orbit::propagate_ecef(instants, positions, instant);
+    match propagation {
+        Propagation::At(p, v, at) => {
+            let six = motion_numbers(p, v);
+            *out = six;
+            *place = place_number(at);
+            0
+        }
+        Propagation::Refused(refusal) => refusal,
+    }
 }
 
-// The instant in nanoseconds of the closest approach to an observer about an instant.
+// The instant in nanoseconds of the closest approach to an observer about an instant, and where it lies (0 before the first coordinate, 1 from the
+// first to the last, 2 after the last).
 #[no_mangle]
 pub extern "C" fn orbit_find_pca_time(
     instants: &[i64],
@@ -148,10 +180,13 @@ pub extern "C" fn orbit_find_pca_time(
     oz: Metres,
     instant: Nanoseconds,
     found: &mut i64,
+    place: &mut u8,
 ) -> u8
     ensures { λ r. ⌜ (r ≡ refusalIn (findPcaTime (now (instants .entry)) (now (positions .entry)) (observerOf ox oy oz) (instant .0)))
-        × (now (found .exit) ≡ areaOf (λ (t : ℤ). t)
+        × (now (found .exit) ≡ areaOf (λ (x : Located ℤ). x .answer)
         (findPcaTime (now (instants .entry)) (now (positions .entry)) (observerOf ox oy oz) (instant .0)) (now (found .entry)))
+        × (now (place .exit) ≡ areaOf (λ (x : Located ℤ). placeNumber (x .place))
+        (findPcaTime (now (instants .entry)) (now (positions .entry)) (observerOf ox oy oz) (instant .0)) (now (place .entry)))
         ⌝ }
 {
     let observer = Observer {
@@ -161,9 +196,10 @@ pub extern "C" fn orbit_find_pca_time(
     };
     let closest = orbit::find_pca_time(instants, positions, observer, instant);
     match closest {
-        ClosestApproach::At(t) => {
+        ClosestApproach::At(t, at) => {
             let nanoseconds = t.0;
             *found = nanoseconds;
+            *place = place_number(at);
             0
         }
         ClosestApproach::Refused(refusal) => refusal,

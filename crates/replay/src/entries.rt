@@ -24,6 +24,8 @@ use checks::MOST_SAMPLES;
 use orbit::ChebyshevOrbit;
 use orbit::ClosestApproach;
 use orbit::FitAnswer;
+use orbit::MotionAnswer;
+use orbit::Place;
 use orbit::Propagation;
 use samples::Approach;
 use samples::Downsampled;
@@ -32,7 +34,9 @@ use sp3::Sp3Read;
 use units::Hertz;
 use units::LeapSeconds;
 use units::Nanoseconds;
+use units::Position;
 use units::Seconds;
+use units::Velocity;
 
 // How many elements an area may have: one for each sample of the longest recording, and a few behind them. The stored files have fewer positions.
 const AREA: usize = MOST_SAMPLES + 8;
@@ -176,24 +180,35 @@ fn get_chebyshev_model(case: Case, wholes: &Wholes, doubles: &Doubles) -> bool {
     case.after_two == 1
 }
 
-// Puts a refusal, or 0 with the position and the velocity.
-fn print_motion(motion: Propagation) {
-    match motion {
-        Propagation::Refused(refusal) => print_refusal(refusal),
-        Propagation::At(p, v) => {
-            print_refusal(0);
-            print_doubles(&[p.x, p.y, p.z, v.x, v.y, v.z]);
-        }
+// Puts 0 with the position and the velocity.
+fn print_motion(p: Position, v: Velocity) {
+    print_refusal(0);
+    print_doubles(&[p.x, p.y, p.z, v.x, v.y, v.z]);
+}
+
+// Puts where an instant lies: 0 before the first coordinate, 1 from the first to the last, 2 after the last.
+fn print_place(place: Place) {
+    match place {
+        Place::Before => print_word(0),
+        Place::Within => print_word(1),
+        Place::After => print_word(2),
     }
 }
 
-// `propagate_ecef INSTANTS POSITIONS INSTANT`: the refusal alone, or 0 with the position and the velocity.
+// `propagate_ecef INSTANTS POSITIONS INSTANT`: the refusal alone, or 0 with the position, the velocity and the place.
 fn propagate_ecef(case: Case, wholes: &Wholes, doubles: &Doubles) -> bool {
-    print_motion(orbit::propagate_ecef(
+    let propagation = orbit::propagate_ecef(
         wholes_in(wholes, 0, case.first),
         doubles_in(doubles, case.first, case.second),
         Nanoseconds(whole_at(wholes, case.second, 0)),
-    ));
+    );
+    match propagation {
+        Propagation::Refused(refusal) => print_refusal(refusal),
+        Propagation::At(p, v, place) => {
+            print_motion(p, v);
+            print_place(place);
+        }
+    }
     case.after_two == 1
 }
 
@@ -206,11 +221,15 @@ fn evaluate(case: Case, wholes: &Wholes, doubles: &Doubles) -> bool {
         cy: ten_doubles(doubles, 12),
         cz: ten_doubles(doubles, 22),
     };
-    print_motion(orbit::evaluate(orbit, Nanoseconds(wholes[32])));
+    let evaluation = orbit::evaluate(orbit, Nanoseconds(wholes[32]));
+    match evaluation {
+        MotionAnswer::Refused(refusal) => print_refusal(refusal),
+        MotionAnswer::At(p, v) => print_motion(p, v),
+    }
     case.count == 33
 }
 
-// `find_pca_time INSTANTS POSITIONS OX OY OZ INSTANT`: the refusal alone, or 0 and the instant.
+// `find_pca_time INSTANTS POSITIONS OX OY OZ INSTANT`: the refusal alone, or 0, the instant and its place.
 fn find_pca_time(case: Case, wholes: &Wholes, doubles: &Doubles) -> bool {
     let closest = orbit::find_pca_time(
         wholes_in(wholes, 0, case.first),
@@ -220,9 +239,10 @@ fn find_pca_time(case: Case, wholes: &Wholes, doubles: &Doubles) -> bool {
     );
     match closest {
         ClosestApproach::Refused(refusal) => print_refusal(refusal),
-        ClosestApproach::At(t) => {
+        ClosestApproach::At(t, place) => {
             print_refusal(0);
             print_word(unsigned(t.0));
+            print_place(place);
         }
     }
     case.after_two == 4
@@ -284,7 +304,7 @@ fn steepest_slope(case: Case, wholes: &Wholes, doubles: &Doubles) -> bool {
     case.after_two == 0
 }
 
-// Puts a refusal, or 0, clock offset, frequency offset, RMSE, count, the instant and 1 or 0 for the fallback.
+// Puts a refusal, or 0, clock offset, frequency offset, RMSE, count, the instant, 1 or 0 for the fallback and how many lie outside the table.
 fn print_fit(fit: FitAnswer) {
     match fit {
         FitAnswer::Refused(refusal) => print_refusal(refusal),
@@ -300,6 +320,7 @@ fn print_fit(fit: FitAnswer) {
             print_word(report.count as u64);
             print_word(unsigned(report.approach.0));
             print_word(report.fallback as u64);
+            print_word(report.outside as u64);
         }
     }
 }

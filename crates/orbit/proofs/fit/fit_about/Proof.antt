@@ -1,7 +1,9 @@
 -- The predicted instant and so the centre are near; the stages end where the search of the whole list of shifts does. Assumes nothing.
-use mathlib.Core.Path.{_≡_, sym, ap, _∙_, subst}
+use mathlib.Core.Path.{_≡_, sym, ap, ap₂, _∙_, subst}
 use mathlib.Core.Bool.{Bool, cond}
+use mathlib.Core.List.{List}
 use Prim.Native.Nat.{ℕ, _≤_}
+use native.Mathlib.Omega.{arith}
 use borrow.Author.Tests.{not-true, not-false}
 use lib.IntN.{ℤ, natAbs}
 use lib.ListN.{length}
@@ -12,16 +14,16 @@ use Rattle.float.specs.Bounds.{Within}
 use Rattle.samples.specs.Means.{recording}
 use Rattle.samples.specs.Approach.{gapOf}
 use Rattle.samples.specs.Runs.{farthestMoved}
-use Rattle.samples.proofs.Recordings.{record-length}
+use Rattle.samples.proofs.Recordings.{record-length, record-instants}
 use Rattle.orbit.specs.declared.stages.LeastSoFar.{LeastSoFar}
 use Rattle.orbit.specs.declared.fit.Report.{Report}
-use Rattle.orbit.specs.Bounds.{farthestCentre, farthestCoarse}
-use Rattle.orbit.specs.Residuals.{inputsOf}
+use Rattle.orbit.specs.Bounds.{farthestCentre, farthestCoarse, farthestShift}
+use Rattle.orbit.specs.Residuals.{inputsOf, outsideCount}
 use Rattle.orbit.specs.Fit.{Trial, Basis, centreOf, fitByTrials, fitOf, noneUsableRefusal}
 use Rattle.orbit.specs.Stages.{trialBy, afterCoarse, refined, reportOfState, finished}
 use Rattle.orbit.proofs.Trials.{shift-is}
 use Rattle.orbit.proofs.Centre.{predicted-near, centre-small}
-use Rattle.orbit.proofs.Finish.{still-fitting, coarse-small, fit-is}
+use Rattle.orbit.proofs.Finish.{still-fitting, coarse-small, refined-small, fit-is}
 use borrow.Author.Needs.{needs}
 use Rattle.orbit.proofs.fit.fit_about.Statement.{statement}
 use Rattle.orbit.proofs.fit.fit_about.Tie as tie
@@ -33,8 +35,11 @@ abbrev centre-of : tie.Start → Float
 centre-of s = let a = s .args in centreOf (inputsOf (a .instants .now) (a .positions .now) (a .settings)) (a .measured .instant .0)
 
 -- what the code counts, and what it was given
-abbrev basis-of : tie.Start → ℕ → Basis
-basis-of s n = record { count = n; measured = s .args .measured }
+abbrev basis-of : tie.Start → ℕ → List ℤ → Basis
+basis-of s n ts = record { count = n; measured = s .args .measured; outsideCount = outsideCount (s .args .instants .now) ts }
+
+abbrev counted-of : tie.Start → Basis
+counted-of s = basis-of s (length (s .args .samples .now)) (s .args .samples .now)
 
 -- the centre is small
 small-of : (s : tie.Start) → Within farthestCentre (centre-of s)
@@ -72,18 +77,18 @@ same-length c = search needs
 
 -- what is answered, by the least so far after the coarse stage
 answer-is : (c : tie.After-coarse-stage) → let s = start-of c in let a = s .args in
-    finished (try-of s) (basis-of s (length (a .samples .now))) (c .coarse-stage .result) ≡ fitOf (inputsOf (a .instants .now) (a .positions .now) (a .settings)) (recording (a .samples .now) (a .frequencies .now)) (a .measured)
+    finished (try-of s) (counted-of s) (c .coarse-stage .result) ≡ fitOf (inputsOf (a .instants .now) (a .positions .now) (a .settings)) (recording (a .samples .now) (a .frequencies .now)) (a .measured)
 answer-is c =
     let s = start-of c in
     let a = s .args in
-    let n = length (a .samples .now) in
-    ap (finished (try-of s) (basis-of s n)) (coarse-is c)
-    ∙ fit-is (try-of s) (basis-of s n) (centre-of s)
-    ∙ ap (λ (m : ℕ). fitByTrials (try-of s) (basis-of s m) (centre-of s)) (sym (record-length (a .samples .now) (a .frequencies .now) (s .pre .0 .sampled .same)))
+    let same = s .pre .0 .sampled .same in
+    ap (finished (try-of s) (counted-of s)) (coarse-is c)
+    ∙ fit-is (try-of s) (counted-of s) (centre-of s)
+    ∙ ap₂ (λ (m : ℕ) (ts : List ℤ). fitByTrials (try-of s) (basis-of s m ts) (centre-of s)) (sym (record-length (a .samples .now) (a .frequencies .now) same)) (sym (record-instants (a .samples .now) (a .frequencies .now) same))
 
 -- the report of the least so far where a coarse shift is usable, and else refusal 10
 abbrev choice-of : tie.After-coarse-stage → Bool → Outcome Report
-choice-of c b = let s = start-of c in cond b (answered (reportOfState (basis-of s (length (s .args .samples .now))) (refined (try-of s) (c .coarse-stage .result)))) (refused noneUsableRefusal)
+choice-of c b = let s = start-of c in cond b (answered (reportOfState (counted-of s) (refined (try-of s) (c .coarse-stage .result)))) (refused noneUsableRefusal)
 
 returns : tie.Need-returns
 unfolding ofBits
@@ -91,13 +96,27 @@ returns c =
     let at = c .before .before .before .before in
     sym (ap (choice-of at) (not-true (lt (at .coarse-stage .result .rmse .0) largestFinite) (c .if1 .taken))) ∙ answer-is at
 
+-- the best coarse shift is small
+coarse-near : (c : tie.After-coarse-stage) → Within farthestCoarse (c .coarse-stage .result .shift .0)
+coarse-near c =
+    let s = start-of c in
+    subst (λ (x : LeastSoFar). Within farthestCoarse (x .shift .0)) (sym (coarse-is c)) (coarse-small (try-of s) (shift-is _ _) (centre-of s) (small-of s))
+
 refine-requires : tie.Need-refine-requires
 refine-requires c κs =
     let at = c .before .before .before .before .before in
-    let s = start-of at in
-    let call = at .coarse-stage in (
-      still-fitting (call .last .1 .1 .1 .1 .1 .1 .0) (call .kept .1 .1 .1 .1 .1 .1 .0) (s .pre .0),
-      subst (λ (x : LeastSoFar). Within farthestCoarse (x .shift .0)) (sym (coarse-is at)) (coarse-small (try-of s) (shift-is _ _) (centre-of s) (small-of s)),
+    let call = at .coarse-stage in
+    (still-fitting (call .last .1 .1 .1 .1 .1 .1 .0) (call .kept .1 .1 .1 .1 .1 .1 .0) (start-of at .pre .0), coarse-near at)
+
+-- and so is the shift that is reported
+count-outside-requires : tie.Need-count-outside-requires
+count-outside-requires c κs =
+    let call = c .before .before .before .before .before .before in
+    let at = call .before .before .before .before .before .before in
+    let s = start-of at in (
+      omega (arith, s .pre .0 .table .enough),
+      s .pre .0 .sampled .near,
+      subst (λ (x : LeastSoFar). Within farthestShift (x .shift .0)) (sym (call .refine .ensures)) (refined-small (try-of s) (shift-is _ _) (at .coarse-stage .result) (coarse-near at)),
     )
 
 same-length-2 : tie.Need-same-length-2
@@ -106,13 +125,14 @@ same-length-2 c = search needs
 returns-2 : tie.Need-returns-2
 unfolding ofBits
 returns-2 c =
-    let call = c .before .before .before .before .before .before in
+    let call = c .before .before .before .before .before .before .before in
     let usable = call .before .before in
     let at = usable .before .before .before .before in
     let s = start-of at in
-    ap (λ (x : LeastSoFar). answered (reportOfState (basis-of s (length (s .args .samples .now))) x)) (call .refine .ensures)
+    rw (c .count-outside .ensures)
+    (ap (λ (x : LeastSoFar). answered (reportOfState (counted-of s) x)) (call .refine .ensures)
     ∙ sym (ap (choice-of at) (not-false (lt (at .coarse-stage .result .rmse .0) largestFinite) (usable .if1 .left)))
-    ∙ answer-is at
+    ∙ answer-is at)
 
 pub fit-about-spec : {M : Type 1} → statement M
 fit-about-spec =
@@ -124,5 +144,6 @@ fit-about-spec =
     same-length
     returns
     refine-requires
+    count-outside-requires
     same-length-2
     returns-2)
