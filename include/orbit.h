@@ -72,6 +72,10 @@ typedef struct { double metres_per_second; } orbit_metres_per_second;
  * (refusal 14). */
 enum { ORBIT_MOST_COORDINATES = 4096, ORBIT_MOST_SAMPLES = 1312, ORBIT_MOST_ENTRIES = 64 };
 
+/* Where an instant lies: before the first coordinate of a table, from the first to the last, both included, or after the last.
+ * Outside the table a position is extrapolated: the farther outside, the less it can be trusted. */
+enum { ORBIT_BEFORE = 0, ORBIT_WITHIN = 1, ORBIT_AFTER = 2 };
+
 /* What a fit answers. The clock offset is above zero where the recorder's clock is ahead of the table's. */
 typedef struct { orbit_seconds clock_offset; orbit_hertz frequency_offset; orbit_hertz rmse; } orbit_report;
 
@@ -126,14 +130,16 @@ uint8_t orbit_get_chebyshev_model(const int64_t *instants, size_t instant_count,
 /* Position and velocity by such a model at an instant. Refuses by 4. */
 uint8_t orbit_evaluate(const orbit_model *model, orbit_nanoseconds instant, orbit_motion *out);
 
-/* Position and velocity by a table at an instant; outside the table they are extrapolated. Refuses by 1, 4, 5, 6, 8. */
+/* Position and velocity by a table at an instant; outside the table they are extrapolated. Into place: where the instant lies, ORBIT_BEFORE,
+ * ORBIT_WITHIN or ORBIT_AFTER. Refuses by 1, 4, 5, 6, 8. */
 uint8_t orbit_propagate_ecef(const int64_t *instants, size_t instant_count, const double *positions, size_t position_count,
-                             orbit_nanoseconds instant, orbit_motion *out);
+                             orbit_nanoseconds instant, orbit_motion *out, uint8_t *place);
 
-/* The instant at which the satellite is closest to the observer at (ox, oy, oz), to the second, within 51 minutes of an instant.
- * Refuses by 1, 4, 5, 6. */
+/* The instant at which the satellite is closest to the observer at (ox, oy, oz), to the second, within 51 minutes of an instant. Into
+ * place: where the instant found lies, as above. Refuses by 1, 4, 5, 6. */
 uint8_t orbit_find_pca_time(const int64_t *instants, size_t instant_count, const double *positions, size_t position_count,
-                            orbit_metres ox, orbit_metres oy, orbit_metres oz, orbit_nanoseconds instant, orbit_nanoseconds *found);
+                            orbit_metres ox, orbit_metres oy, orbit_metres oz, orbit_nanoseconds instant, orbit_nanoseconds *found,
+                            uint8_t *place);
 
 /* The means of a recording, one for each second that holds a sample, seconds rising, at the front of the two areas; the rest of each stays.
  * Their number goes into count. Refuses by 2, 3, 4. */
@@ -155,21 +161,24 @@ uint8_t orbit_steepest_slope(const int64_t *instants, size_t instant_count, cons
 orbit_metres orbit_estimate_slant_range(orbit_hertz f0, double slope);
 
 /* The fit of a recording to a satellite, about the instant of its measured approach. Into count: the number of samples; into approach:
- * that instant again; into fallback: 0, since it was given. Refuses by 1, 2, 4, 5, 6, 7, 10. */
+ * that instant again; into fallback: 0, since it was given; into outside: how many of the samples lie before the first coordinate or after
+ * the last, once each is moved earlier by the clock offset, cut to whole microseconds, as the fit moves it. Those that have no position
+ * there (refusal 8) are counted too. Refuses by 1, 2, 4, 5, 6, 7, 10. */
 uint8_t orbit_fit_satellite(const int64_t *instants, size_t instant_count, const double *positions, size_t position_count,
                             const int64_t *samples, size_t sample_count, const double *frequencies, size_t frequency_count,
                             orbit_metres ox, orbit_metres oy, orbit_metres oz, orbit_hertz f0, orbit_nanoseconds measured,
-                            orbit_report *report, uint64_t *count, orbit_nanoseconds *approach, uint8_t *fallback);
+                            orbit_report *report, uint64_t *count, orbit_nanoseconds *approach, uint8_t *fallback, uint64_t *outside);
 
 /* The whole pass: the means of a recording, as above, their measured approach or else the mean at index count / 2, and the fit of the means.
  * Into count: the number of means; into approach: the instant that the clock offset was taken about, by the recorder's clock; into fallback:
- * 1 if that is the mean at index count / 2, since no slope of the means is below zero, 0 if it is their measured approach.
- * Refuses by 1, 2, 3, 4, 5, 6, 7, 10; under 10 the means stay written. */
+ * 1 if that is the mean at index count / 2, since no slope of the means is below zero, 0 if it is their measured approach; into outside:
+ * how many of the means lie outside the table, counted as above. Where any do, the clock offset goes by extrapolated positions and may be
+ * far off: take an orbit file that holds the whole pass. Refuses by 1, 2, 3, 4, 5, 6, 7, 10; under 10 the means stay written. */
 uint8_t orbit_pass(const int64_t *instants, size_t instant_count, const double *positions, size_t position_count,
                    const int64_t *samples, size_t sample_count, const double *frequencies, size_t frequency_count,
                    orbit_metres ox, orbit_metres oy, orbit_metres oz, orbit_hertz f0,
                    int64_t *mean_instants, size_t mean_instant_count, double *mean_frequencies, size_t mean_frequency_count,
-                   orbit_report *report, uint64_t *count, orbit_nanoseconds *approach, uint8_t *fallback);
+                   orbit_report *report, uint64_t *count, orbit_nanoseconds *approach, uint8_t *fallback, uint64_t *outside);
 
 /* The positions of one satellite in the bytes of an orbit file in SP3-c, in the file's order, as instants and x, y, z in metres at the
  * front of the two areas; the rest of each stays. The satellite is its three bytes in the file, such as {'G', '0', '5'}. A file in UTC

@@ -1,5 +1,5 @@
 /* Runs one pass of a satellite from an orbit file and the sample data of examples/data and prints what the library answers; then shows
- * a recording without an approach, a fleet board, and three refusals.
+ * an orbit file that ends too early, a recording without an approach, a fleet board, and three refusals.
  * usage: clock FILE, an orbit file in SP3-c
  * Exit status 0: all was as expected. */
 #include <inttypes.h>
@@ -37,6 +37,7 @@ enum {
     LONGEST_FILE = 1 << 20, /* bytes */
     SAMPLES = sizeof recording / sizeof recording[0],
     FEW_SAMPLES = 5, /* too few for an approach: they lie in two seconds */
+    EARLY_COORDINATES = 13, /* too few for the pass: they end during it */
     MEANS_SHOWN = 3,
     OWN_NUMBER = 1, /* of the pass's satellite on the board, and of another */
     OTHER_NUMBER = 2,
@@ -56,6 +57,9 @@ typedef struct {
     uint64_t count;                               /* of coordinates */
 } pass_table;
 
+/* Where the observer is. */
+typedef struct { orbit_metres x, y, z; } observer_position;
+
 /* The recording, as the library takes it. */
 typedef struct {
     int64_t instants[SAMPLES];   /* ns since 1970-01-01, by the recorder's clock */
@@ -70,11 +74,17 @@ typedef struct {
     uint64_t count;                              /* of means */
     orbit_nanoseconds approach;                  /* that the clock offset was taken about */
     uint8_t fallback;                            /* whether that is the middle mean's */
+    uint64_t outside;                            /* how many of the means lie outside the table */
 } pass_answer;
 
 static orbit_hertz centre_frequency(void)
 {
     return (orbit_hertz){station[0].centre_frequency};
+}
+
+static observer_position observer(void)
+{
+    return (observer_position){{station[0].x}, {station[0].y}, {station[0].z}};
 }
 
 /* The whole of a file; false where it cannot be read or is too long. */
@@ -126,12 +136,12 @@ static void load_board(const pass_answer *pass, orbit_entry board[ENTRIES])
 /* The whole pass, of the first so many samples: 0, or the number of the refusal. */
 static uint8_t run_pass(const pass_table *table, const pass_recording *samples, size_t sample_count, pass_answer *answer)
 {
-    const orbit_metres ox = {station[0].x}, oy = {station[0].y}, oz = {station[0].z};
+    const observer_position o = observer();
     return orbit_pass(table->instants, table->count, table->positions, 3 * table->count,
                       samples->instants, sample_count, samples->frequencies, sample_count,
-                      ox, oy, oz, centre_frequency(),
+                      o.x, o.y, o.z, centre_frequency(),
                       answer->mean_instants, ORBIT_MOST_SAMPLES, answer->mean_frequencies, ORBIT_MOST_SAMPLES,
-                      &answer->report, &answer->count, &answer->approach, &answer->fallback);
+                      &answer->report, &answer->count, &answer->approach, &answer->fallback, &answer->outside);
 }
 
 static void print_refusal(uint8_t refusal)
@@ -186,6 +196,14 @@ static void print_count_and_approach(const pass_answer *answer)
            answer->fallback ? "the middle of the recording: it shows no approach" : "where the frequency falls fastest");
 }
 
+/* A warning, where any of the means lies outside the orbit file. */
+static void print_outside(const pass_answer *answer)
+{
+    if (answer->outside > 0) {
+        printf("%" PRIu64 " of %" PRIu64 " means lie outside the orbit file: take a newer one\n", answer->outside, answer->count);
+    }
+}
+
 static void print_report(const pass_answer *answer)
 {
     const orbit_report *report = &answer->report;
@@ -193,6 +211,76 @@ static void print_report(const pass_answer *answer)
     printf("frequency offset  %.3f Hz\n", report->frequency_offset.hertz);
     printf("RMSE              %.3f Hz\n", report->rmse.hertz);
     print_count_and_approach(answer);
+    print_outside(answer);
+}
+
+/* Where an instant lies, in words. */
+static const char *place_words(uint8_t place)
+{
+    switch (place) {
+    case ORBIT_BEFORE:
+        return "before the orbit file begins";
+    case ORBIT_WITHIN:
+        return "within the orbit file";
+    case ORBIT_AFTER:
+        return "after the orbit file ends";
+    default:
+        return "NO place";
+    }
+}
+
+static void print_instant_and_place(const char *what, orbit_nanoseconds instant, uint8_t place)
+{
+    printf("%-18s", what);
+    print_instant(instant.nanoseconds, "%Y-%m-%d %H:%M:%S");
+    printf(" by the table's clock, %s", place_words(place));
+}
+
+/* The instant of the closest approach by the table, and where it lies: 0, or the number of the refusal. */
+static uint8_t print_closest(const pass_table *table, const pass_answer *answer)
+{
+    const observer_position o = observer();
+    orbit_nanoseconds found;
+    uint8_t place;
+    const uint8_t refusal = orbit_find_pca_time(table->instants, table->count, table->positions, 3 * table->count,
+                                                o.x, o.y, o.z, answer->approach, &found, &place);
+    if (refusal == 0) {
+        print_instant_and_place("closest approach", found, place);
+        printf("\n");
+    }
+    return refusal;
+}
+
+/* The distance of the observer from where the satellite is. */
+static orbit_metres distance_to(const orbit_motion *motion)
+{
+    const observer_position o = observer();
+    const double x = motion->x.metres - o.x.metres, y = motion->y.metres - o.y.metres, z = motion->z.metres - o.z.metres;
+    return (orbit_metres){orbit_sqrt(x * x + y * y + z * z)};
+}
+
+/* The instant of the last mean, moved by the clock offset in whole microseconds as the fit moved it, where it lies, and how far the satellite
+ * is then by the table: 0, or the number of the refusal. */
+static uint8_t print_last_mean(const pass_table *table, const pass_answer *answer)
+{
+    const int64_t microseconds = orbit_truncated(answer->report.clock_offset.seconds * 1e6);
+    const orbit_nanoseconds instant = {answer->mean_instants[answer->count - 1] - microseconds * 1000};
+    orbit_motion motion;
+    uint8_t place;
+    const uint8_t refusal = orbit_propagate_ecef(table->instants, table->count, table->positions, 3 * table->count,
+                                                 instant, &motion, &place);
+    if (refusal == 0) {
+        print_instant_and_place("last mean", instant, place);
+        printf(", the satellite %.0f m away\n", distance_to(&motion).metres);
+    }
+    return refusal;
+}
+
+/* Both of these: 0, or the number of the refusal. */
+static uint8_t print_places(const pass_table *table, const pass_answer *answer)
+{
+    const uint8_t refusal = print_closest(table, answer);
+    return refusal != 0 ? refusal : print_last_mean(table, answer);
 }
 
 /* The steepest slope of the means, and the slant range by it: 0, or the number of the refusal. */
@@ -236,12 +324,22 @@ static bool show_table(const char *name, const sp3_file *file, pass_table *table
     return true;
 }
 
+/* The pass of the whole recording, its report and its places: 0, or the number of the refusal. */
+static uint8_t print_pass(const pass_table *table, const pass_recording *samples, pass_answer *answer)
+{
+    const uint8_t refusal = run_pass(table, samples, SAMPLES, answer);
+    if (refusal != 0) {
+        return refusal;
+    }
+    print_report(answer);
+    return print_places(table, answer);
+}
+
 /* The pass of the sample data. */
 static bool show_pass(const pass_table *table, const pass_recording *samples, pass_answer *answer)
 {
-    uint8_t refusal = run_pass(table, samples, SAMPLES, answer);
+    uint8_t refusal = print_pass(table, samples, answer);
     if (refusal == 0) {
-        print_report(answer);
         print_means(answer);
         refusal = print_slope_and_range(answer);
     }
@@ -249,7 +347,23 @@ static bool show_pass(const pass_table *table, const pass_recording *samples, pa
         print_refusal(refusal);
         return false;
     }
-    return print_known(answer);
+    return print_known(answer) && answer->outside == 0;
+}
+
+/* The same pass with an orbit file that ends during it: positions after its end are extrapolated, the clock offset is off, and the report
+ * warns. */
+static bool show_early_end(const pass_table *table, const pass_recording *samples, pass_answer *answer)
+{
+    static pass_table shorter;
+    memcpy(&shorter, table, sizeof shorter);
+    shorter.count = EARLY_COORDINATES;
+    printf("\nThe same pass, an orbit file that ends during it: its first %d coordinates alone\n", EARLY_COORDINATES);
+    const uint8_t refusal = print_pass(&shorter, samples, answer);
+    if (refusal != 0) {
+        print_refusal(refusal);
+        return false;
+    }
+    return answer->outside > 0;
 }
 
 /* The pass of the first few samples shows no approach, so that it is taken about the middle mean. */
@@ -262,6 +376,7 @@ static bool show_few_samples(const pass_table *table, const pass_recording *samp
         return false;
     }
     print_count_and_approach(answer);
+    print_outside(answer);
     return answer->fallback && answer->approach.nanoseconds == answer->mean_instants[answer->count / 2];
 }
 
@@ -343,7 +458,8 @@ int main(int argc, char **argv)
     printf("A pass: %d samples, centre frequency %.0f Hz\n", SAMPLES, centre_frequency().hertz);
     const bool answered = show_table(argv[1], &file, &table) && show_pass(&table, &samples, &answer);
     load_board(&answer, board);
-    const bool all_answered = answered && show_few_samples(&table, &samples, &answer) && show_board(board);
+    const bool all_answered = answered && show_early_end(&table, &samples, &answer) && show_few_samples(&table, &samples, &answer) &&
+                              show_board(board);
     const bool kilometres_refused = show_kilometres(&table, &samples, &answer);
     const bool commas_refused = show_commas(&file, &table);
     const bool board_refused = show_board_refused(board);

@@ -11,10 +11,10 @@ uint8_t taken_about(const int64_t *instants, size_t rows, const double *position
                     size_t sample_count, orbit_metres x, orbit_hertz f0, orbit_nanoseconds measured, kept *approach)
 {
     orbit_report report;
-    uint64_t count;
+    uint64_t count, outside;
     uint8_t fallback;
     return orbit_fit_satellite(instants, rows, positions, 3 * rows, samples, sample_count, frequencies, sample_count,
                                x, x, x, f0, measured, &report, &count,
                                approach, /* WRONG: passing argument 16 of 'orbit_fit_satellite' from incompatible pointer type */
-                               &fallback);
+                               &fallback, &outside);
 }

@@ -1,12 +1,12 @@
-//! Runs one pass of a satellite from the sample data of examples/data and prints what the library answers; then shows a recording
-//! without an approach, a fleet board, and three refusals.
+//! Runs one pass of a satellite from the sample data of examples/data and prints what the library answers; then shows an orbit file
+//! that ends too early, a recording without an approach, a fleet board, and three refusals.
 //! Prints the same lines as examples/c/clock.c. Exit status 0: all was as expected.
 
 mod data;
 
 use data::{Known, LEAP_SECONDS, ORBIT_FILE, SATELLITE, Sample};
 use orbit::{
-    Entry, Hertz, MOST_COORDINATES, MOST_SAMPLES, MeansArea, Metres, Nanoseconds, Position,
+    Entry, Hertz, MOST_COORDINATES, MOST_SAMPLES, MeansArea, Metres, Nanoseconds, Place, Position,
     Recording, Refusal, Report, Seconds,
 };
 use std::process::ExitCode;
@@ -19,6 +19,9 @@ const MEANS_SHOWN: usize = 3;
 
 /// Too few samples for an approach: they lie in two seconds.
 const FEW_SAMPLES: usize = 5;
+
+/// Too few coordinates for the pass: they end during it.
+const EARLY_COORDINATES: usize = 13;
 
 /// How many entries the board has.
 const ENTRIES: usize = 4;
@@ -99,7 +102,8 @@ fn main() -> ExitCode {
 fn show_all(sample: Sample) -> Result<bool, Refusal> {
     let (report, found) = show_pass(&sample)?;
     let board = board_of(&report);
-    let answered = found & show_few_samples(&sample)? & show_board(&board)?;
+    let warned = show_early_end()?;
+    let answered = found & warned & show_few_samples(&sample)? & show_board(&board)?;
     let refused = show_kilometres(sample) & show_commas() & show_board_refused(board);
     Ok(answered & refused)
 }
@@ -117,9 +121,27 @@ fn show_pass(sample: &Sample) -> Result<(Report, bool), Refusal> {
     let report = run_pass(sample, sample.recording(), &mut areas)?;
     let means = areas.means(&report);
     print_report(&report);
+    print_places(sample, &report, means)?;
     print_means(means);
     print_slope_and_range(sample.centre_frequency, means)?;
-    Ok((report, print_known(&sample.known, &report)))
+    let found = print_known(&sample.known, &report);
+    Ok((report, found && report.outside == 0))
+}
+
+/// The same pass with an orbit file that ends during it: positions after its end are extrapolated, the clock offset is off. Whether
+/// the report warns.
+fn show_early_end() -> Result<bool, Refusal> {
+    println!(
+        "\nThe same pass, an orbit file that ends during it: its first {EARLY_COORDINATES} coordinates alone"
+    );
+    let mut shorter = Sample::load();
+    shorter.instants.truncate(EARLY_COORDINATES);
+    shorter.positions.truncate(EARLY_COORDINATES);
+    let mut areas = Areas::new();
+    let report = run_pass(&shorter, shorter.recording(), &mut areas)?;
+    print_report(&report);
+    print_places(&shorter, &report, areas.means(&report))?;
+    Ok(report.outside > 0)
 }
 
 /// The pass of the first few samples shows no approach; whether it was taken about the middle mean.
@@ -132,6 +154,7 @@ fn show_few_samples(sample: &Sample) -> Result<bool, Refusal> {
     let mut areas = Areas::new();
     let report = run_pass(sample, few, &mut areas)?;
     print_count_and_approach(&report);
+    print_outside(&report);
     let middle = areas.means(&report).instants[report.count as usize / 2];
     Ok(report.fallback && report.approach == middle)
 }
@@ -184,6 +207,7 @@ fn print_report(report: &Report) {
     println!("frequency offset  {:.3} Hz", report.frequency_offset.0);
     println!("RMSE              {:.3} Hz", report.rmse.0);
     print_count_and_approach(report);
+    print_outside(report);
 }
 
 /// How many means there are, and the instant that the clock offset was taken about.
@@ -196,6 +220,54 @@ fn print_count_and_approach(report: &Report) {
         "where the frequency falls fastest"
     };
     println!("taken about       {date} {time} UTC by the recorder's clock, {which}");
+}
+
+/// A warning, where any of the means lies outside the orbit file.
+fn print_outside(report: &Report) {
+    let (outside, count) = (report.outside, report.count);
+    if outside > 0 {
+        println!("{outside} of {count} means lie outside the orbit file: take a newer one");
+    }
+}
+
+/// The instant of the closest approach and that of the last mean, by the table's clock, and where they lie.
+fn print_places(sample: &Sample, report: &Report, means: Recording) -> Result<(), Refusal> {
+    let closest = orbit::find_pca_time(sample.table(), sample.observer, report.approach)?;
+    let when_and_where = instant_and_place(closest.instant, closest.place);
+    println!("closest approach  {when_and_where}");
+    let last = moved(means.instants[means.instants.len() - 1], report);
+    let propagation = orbit::propagate_ecef(sample.table(), last)?;
+    let when_and_where = instant_and_place(last, propagation.place);
+    let Metres(distance) = distance(propagation.motion.position, sample.observer);
+    println!("last mean         {when_and_where}, the satellite {distance:.0} m away");
+    Ok(())
+}
+
+/// An instant, and where it lies.
+fn instant_and_place(instant: Nanoseconds, place: Place) -> String {
+    let (date, time, place) = (date_of(instant), time_of_day(instant), place_words(place));
+    format!("{date} {time} UTC by the table's clock, {place}")
+}
+
+/// Where an instant lies, in words.
+fn place_words(place: Place) -> &'static str {
+    match place {
+        Place::Before => "before the orbit file begins",
+        Place::Within => "within the orbit file",
+        Place::After => "after the orbit file ends",
+    }
+}
+
+/// An instant by the recorder's clock, moved by the clock offset in whole microseconds as the fit moved it.
+fn moved(Nanoseconds(nanoseconds): Nanoseconds, report: &Report) -> Nanoseconds {
+    let microseconds = orbit::truncated(report.clock_offset.0 * 1e6);
+    Nanoseconds(nanoseconds - microseconds * 1000)
+}
+
+/// How far two positions are apart.
+fn distance(from: Position, to: Position) -> Metres {
+    let [x, y, z] = [0, 1, 2].map(|axis| from[axis].0 - to[axis].0);
+    Metres(orbit::sqrt(x * x + y * y + z * z))
 }
 
 /// The first means and the last.

@@ -94,6 +94,10 @@ pub struct Report {
     pub approach: Nanoseconds,
     /// Whether that is the middle mean's, since no slope of the means is below zero; never in a fit.
     pub fallback: bool,
+    /// How many of the means or samples lie before the table's first coordinate or after its last, once each is moved earlier by the
+    /// clock offset, cut to whole microseconds; those that have no position there (refusal 8) are counted too. Where any do, the
+    /// clock offset goes by extrapolated positions and may be far off: take an orbit file that holds the whole pass.
+    pub outside: u64,
 }
 
 /// The Chebyshev model of ten coordinates: their first time and their last, and ten coefficients of each axis.
@@ -113,6 +117,32 @@ pub struct ChebyshevModel {
 pub struct Motion {
     pub position: Position,
     pub velocity: [MetresPerSecond; 3],
+}
+
+/// Where an instant lies in respect of a table's coordinates, by the numbers of include/orbit.h. Outside the table a position is
+/// extrapolated: the farther outside, the less it can be trusted.
+#[derive(Clone, Copy, Debug, PartialEq, Eq)]
+pub enum Place {
+    /// Before the first coordinate.
+    Before = 0,
+    /// From the first coordinate to the last, both included.
+    Within = 1,
+    /// After the last coordinate.
+    After = 2,
+}
+
+/// Where a satellite is by a table and how it moves, and where the instant of it lies.
+#[derive(Clone, Copy, Debug, PartialEq)]
+pub struct Propagation {
+    pub motion: Motion,
+    pub place: Place,
+}
+
+/// The instant of the closest approach, and where that instant lies.
+#[derive(Clone, Copy, Debug, PartialEq, Eq)]
+pub struct ClosestApproach {
+    pub instant: Nanoseconds,
+    pub place: Place,
 }
 
 /// An entry of the fleet board: what one boat has of a satellite. It is `orbit_entry` of include/orbit.h.
@@ -144,6 +174,7 @@ struct Fitted {
     count: u64,
     approach: Nanoseconds,
     fallback: u8,
+    outside: u64,
 }
 
 // The library reads and writes these as 32, 6 and 3 doubles, one after the other: there must be no padding.
@@ -163,7 +194,17 @@ impl Report {
             count: fitted.count,
             approach: fitted.approach,
             fallback: fitted.fallback != 0,
+            outside: fitted.outside,
         }
+    }
+}
+
+impl Place {
+    /// The place of this number, which the library writes.
+    fn numbered(number: u8) -> Self {
+        let places = [Place::Before, Place::Within, Place::After];
+        let found = places.into_iter().find(|&place| place as u8 == number);
+        found.unwrap_or_else(|| unreachable!("the library has no place {number}"))
     }
 }
 
@@ -206,6 +247,7 @@ unsafe extern "C" {
         position_count: usize,
         instant: Nanoseconds,
         out: &mut Motion,
+        place: &mut u8,
     ) -> u8;
     fn orbit_find_pca_time(
         instants: *const Nanoseconds,
@@ -217,6 +259,7 @@ unsafe extern "C" {
         oz: Metres,
         instant: Nanoseconds,
         found: &mut Nanoseconds,
+        place: &mut u8,
     ) -> u8;
     fn orbit_downsample_data(
         instants: *const Nanoseconds,
@@ -261,6 +304,7 @@ unsafe extern "C" {
         count: &mut u64,
         approach: &mut Nanoseconds,
         fallback: &mut u8,
+        outside: &mut u64,
     ) -> u8;
     fn orbit_pass(
         instants: *const Nanoseconds,
@@ -283,6 +327,7 @@ unsafe extern "C" {
         count: &mut u64,
         approach: &mut Nanoseconds,
         fallback: &mut u8,
+        outside: &mut u64,
     ) -> u8;
     fn orbit_read_sp3(
         bytes: *const u8,
@@ -356,10 +401,11 @@ pub fn evaluate(model: &ChebyshevModel, instant: Nanoseconds) -> Result<Motion, 
     Refusal::or(number, motion)
 }
 
-/// Position and velocity by a table at an instant; outside the table they are extrapolated. Refuses by 1, 4, 5, 6, 8.
-pub fn propagate_ecef(table: Table, instant: Nanoseconds) -> Result<Motion, Refusal> {
+/// Position and velocity by a table at an instant, and where the instant lies; outside the table they are extrapolated. Refuses by
+/// 1, 4, 5, 6, 8.
+pub fn propagate_ecef(table: Table, instant: Nanoseconds) -> Result<Propagation, Refusal> {
     let (instants, positions) = (table.instants, table.positions.as_flattened());
-    let mut motion = Motion::default();
+    let (mut motion, mut place) = (Motion::default(), 0);
     // SAFETY: each pointer is to as many numbers as the count after it says.
     let number = unsafe {
         orbit_propagate_ecef(
@@ -369,20 +415,22 @@ pub fn propagate_ecef(table: Table, instant: Nanoseconds) -> Result<Motion, Refu
             positions.len(),
             instant,
             &mut motion,
+            &mut place,
         )
     };
-    Refusal::or(number, motion)
+    let place = Place::numbered(place);
+    Refusal::or(number, Propagation { motion, place })
 }
 
-/// The instant at which the satellite is closest to the observer, to the second, within 51 minutes of an instant.
-/// Refuses by 1, 4, 5, 6.
+/// The instant at which the satellite is closest to the observer, to the second, within 51 minutes of an instant, and where the
+/// instant found lies. Refuses by 1, 4, 5, 6.
 pub fn find_pca_time(
     table: Table,
     [ox, oy, oz]: Position,
     instant: Nanoseconds,
-) -> Result<Nanoseconds, Refusal> {
+) -> Result<ClosestApproach, Refusal> {
     let (instants, positions) = (table.instants, table.positions.as_flattened());
-    let mut found = Nanoseconds(0);
+    let (mut found, mut place) = (Nanoseconds(0), 0);
     // SAFETY: each pointer is to as many numbers as the count after it says.
     let number = unsafe {
         orbit_find_pca_time(
@@ -395,9 +443,14 @@ pub fn find_pca_time(
             oz,
             instant,
             &mut found,
+            &mut place,
         )
     };
-    Refusal::or(number, found)
+    let closest = ClosestApproach {
+        instant: found,
+        place: Place::numbered(place),
+    };
+    Refusal::or(number, closest)
 }
 
 /// The means of a recording, one for each second that holds a sample, seconds rising, at the front of the areas; their number.
@@ -494,6 +547,7 @@ pub fn fit_satellite(
             &mut fitted.count,
             &mut fitted.approach,
             &mut fitted.fallback,
+            &mut fitted.outside,
         )
     };
     Refusal::or(number, Report::of(fitted))
@@ -535,6 +589,7 @@ pub fn pass(
             &mut fitted.count,
             &mut fitted.approach,
             &mut fitted.fallback,
+            &mut fitted.outside,
         )
     };
     Refusal::or(number, Report::of(fitted))
@@ -580,4 +635,19 @@ pub fn fleet_board(entries: &[Entry]) -> Result<Seconds, Refusal> {
     // SAFETY: the pointer is to as many entries as the count after it says.
     let number = unsafe { orbit_fleet_board(entries.as_ptr(), entries.len(), &mut clock_offset) };
     Refusal::or(number, clock_offset)
+}
+
+#[cfg(test)]
+mod tests {
+    use super::Place;
+    use std::panic::catch_unwind;
+
+    #[test]
+    fn a_place_for_three_numbers_alone() {
+        let places: Vec<Place> = (0..3).map(Place::numbered).collect();
+        assert_eq!(places, [Place::Before, Place::Within, Place::After]);
+        for number in [3, u8::MAX] {
+            assert!(catch_unwind(|| Place::numbered(number)).is_err());
+        }
+    }
 }

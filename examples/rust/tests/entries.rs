@@ -5,12 +5,16 @@ mod data;
 
 use data::{LEAP_SECONDS, ORBIT_FILE, SATELLITE, Sample};
 use orbit::{
-    Entry, Hertz, HertzPerSecond, LeapSeconds, MOST_COORDINATES, MOST_ENTRIES, MOST_SAMPLES,
-    MeansArea, Metres, MetresPerSecond, Nanoseconds, Position, Recording, Refusal, Report, Seconds,
-    Table,
+    ClosestApproach, Entry, Hertz, HertzPerSecond, LeapSeconds, MOST_COORDINATES, MOST_ENTRIES,
+    MOST_SAMPLES, MeansArea, Metres, MetresPerSecond, Nanoseconds, Place, Position, Recording,
+    Refusal, Report, Seconds, Table,
 };
+use std::ops::Range;
 
 const SECOND: i64 = 1_000_000_000;
+
+/// The farthest instant from 1970 that check 4 lets pass.
+const FARTHEST: i64 = 4_000_000_000_000_000_000;
 
 /// The row of the table that lies 54 s before the closest approach; examples/data/make.py says so.
 const MIDDLE_ROW: usize = 12;
@@ -37,6 +41,36 @@ fn pass(sample: &Sample) -> (Result<Report, Refusal>, Vec<Nanoseconds>, Vec<Hert
         areas,
     );
     (answer, instants, frequencies)
+}
+
+/// The fit of all the samples of some sample data about their measured approach.
+fn fit(sample: &Sample) -> Result<Report, Refusal> {
+    let recording = sample.recording();
+    let measured = orbit::estimate_measured_pca_time(recording)?;
+    let (table, f0) = (sample.table(), sample.centre_frequency);
+    orbit::fit_satellite(table, recording, sample.observer, f0, measured)
+}
+
+/// The sample data with these coordinates of the table alone.
+fn with_coordinates(rows: Range<usize>) -> Sample {
+    let mut sample = Sample::load();
+    sample.instants = sample.instants[rows.clone()].to_vec();
+    sample.positions = sample.positions[rows].to_vec();
+    sample
+}
+
+/// The instants of the table's first coordinate and of its last, in nanoseconds.
+fn ends(sample: &Sample) -> [i64; 2] {
+    [0, sample.instants.len() - 1].map(|row| sample.instants[row].0)
+}
+
+/// How many instants lie before the table's first coordinate or after its last, each moved earlier by a report's clock offset in whole
+/// microseconds.
+fn outside(sample: &Sample, instants: &[Nanoseconds], report: &Report) -> u64 {
+    let moved = (report.clock_offset.0 * 1e6) as i64 * 1000;
+    let [first, last] = ends(sample);
+    let lies_outside = |t: &&Nanoseconds| t.0 - moved < first || t.0 - moved > last;
+    instants.iter().filter(lies_outside).count() as u64
 }
 
 /// What the pass refuses by when the sample data are spoilt so.
@@ -139,7 +173,8 @@ fn inverse_row_after_row() {
 fn position_and_velocity() {
     let sample = Sample::load();
     let instant = sample.instants[MIDDLE_ROW];
-    let motion = orbit::propagate_ecef(sample.table(), instant).unwrap();
+    let propagation = orbit::propagate_ecef(sample.table(), instant).unwrap();
+    let motion = propagation.motion;
     let model = orbit::get_chebyshev_model(sample.table(), instant).unwrap();
     assert_eq!(orbit::evaluate(&model, instant), Ok(motion));
     let time = |row: usize| Seconds(orbit::nearest(sample.instants[row].0) * 1e-9);
@@ -161,7 +196,61 @@ fn closest_approach() {
     let sample = Sample::load();
     let Nanoseconds(row) = sample.instants[MIDDLE_ROW];
     let found = orbit::find_pca_time(sample.table(), sample.observer, Nanoseconds(row));
-    assert_eq!(found, Ok(Nanoseconds(row + 54 * SECOND)));
+    let expected = ClosestApproach {
+        instant: Nanoseconds(row + 54 * SECOND),
+        place: Place::Within,
+    };
+    assert_eq!(found, Ok(expected));
+}
+
+#[test]
+fn place_of_a_propagation() {
+    let sample = Sample::load();
+    let [first, last] = ends(&sample);
+    let places = [
+        (-FARTHEST, Place::Before),
+        (first - 1, Place::Before),
+        (first, Place::Within),
+        (first + 1, Place::Within),
+        (last - 1, Place::Within),
+        (last, Place::Within),
+        (last + 1, Place::After),
+        (FARTHEST, Place::After),
+    ];
+    for (nanoseconds, place) in places {
+        let instant = Nanoseconds(nanoseconds);
+        let propagation = orbit::propagate_ecef(sample.table(), instant).unwrap();
+        assert_eq!(propagation.place, place, "{nanoseconds}");
+        let model = orbit::get_chebyshev_model(sample.table(), instant).unwrap();
+        assert_eq!(orbit::evaluate(&model, instant), Ok(propagation.motion));
+    }
+}
+
+/// The observer is where the satellite is at the instant to be found, so that no other is nearer.
+#[test]
+fn place_of_the_closest_approach_that_is_found() {
+    let sample = Sample::load();
+    let [first, last] = ends(&sample);
+    let minute = 60 * SECOND;
+    let places = [
+        (first - 1, first - 1, Place::Before),
+        (first, first, Place::Within),
+        (first + 1, first + 1, Place::Within),
+        (last - 1, last - 1, Place::Within),
+        (last, last, Place::Within),
+        (last + 1, last + 1, Place::After),
+        (first - minute, first, Place::Within),
+        (first, first - minute, Place::Before),
+        (last + minute, last, Place::Within),
+        (last, last + minute, Place::After),
+    ];
+    for (about, nanoseconds, place) in places {
+        let instant = Nanoseconds(nanoseconds);
+        let there = orbit::propagate_ecef(sample.table(), instant).unwrap();
+        let (table, observer) = (sample.table(), there.motion.position);
+        let found = orbit::find_pca_time(table, observer, Nanoseconds(about));
+        assert_eq!(found, Ok(ClosestApproach { instant, place }), "{about}");
+    }
 }
 
 #[test]
@@ -237,6 +326,107 @@ fn fit_repeats_the_instant_that_it_is_given() {
         let fit = orbit::fit_satellite(table, sample.recording(), sample.observer, f0, measured);
         let report = fit.unwrap();
         assert_eq!((report.approach, report.fallback), (measured, false));
+    }
+}
+
+#[test]
+fn means_outside_the_table() {
+    let parts = [(0..24, 0), (0..13, 134), (13..24, 86), (0..11, 160)];
+    for (rows, expected) in parts {
+        let sample = with_coordinates(rows);
+        let (answer, instants, _) = pass(&sample);
+        let report = answer.unwrap();
+        assert_eq!((report.count, report.outside), (160, expected));
+        let means = &instants[..report.count as usize];
+        assert_eq!(report.outside, outside(&sample, means, &report));
+    }
+}
+
+#[test]
+fn samples_outside_the_table() {
+    let parts = [(0..24, 0), (0..13, 336), (13..24, 215), (0..11, 400)];
+    for (rows, expected) in parts {
+        let sample = with_coordinates(rows);
+        let report = fit(&sample).unwrap();
+        assert_eq!((report.count, report.outside), (400, expected));
+        assert_eq!(report.outside, outside(&sample, &sample.samples, &report));
+    }
+}
+
+#[test]
+fn outside_on_both_sides() {
+    let mut sample = Sample::load();
+    let [first, last] = ends(&sample);
+    let last_sample = sample.samples.len() - 1;
+    sample.samples[0] = Nanoseconds(first - 1000 * SECOND);
+    sample.samples[last_sample] = Nanoseconds(last + 1000 * SECOND);
+    let reports = [fit(&sample), pass(&sample).0].map(Result::unwrap);
+    assert_eq!(reports.map(|report| report.outside), [2, 2]);
+}
+
+#[test]
+fn outside_and_without_a_position() {
+    let mut sample = Sample::load();
+    let [first, _] = ends(&sample);
+    sample.instants.insert(0, Nanoseconds(first - 1));
+    sample.positions.insert(0, sample.positions[0]);
+    let early = Nanoseconds(first - 100 * SECOND);
+    let refused = orbit::propagate_ecef(sample.table(), early);
+    assert_eq!(refused, Err(Refusal::PivotTooSmall));
+    sample.samples[0] = early;
+    let reports = [fit(&sample), pass(&sample).0].map(Result::unwrap);
+    assert_eq!(reports.map(|report| report.outside), [1, 1]);
+}
+
+/// The first shift that is tried where the measured approach is the closest one. One sample alone fits under every shift equally well, so
+/// this is the one reported.
+const FIRST_SHIFT: Seconds = Seconds(-15.0);
+
+/// One sample, heard 15 s before the instant that the fit moves it to; the observer is where the satellite is when it is heard.
+#[test]
+fn outside_by_a_nanosecond() {
+    let mut sample = Sample::load();
+    let [first, last] = ends(&sample);
+    sample.frequencies.truncate(1);
+    let moved_to = [
+        (first - 1, 1),
+        (first, 0),
+        (first + 1, 0),
+        (last - 1, 0),
+        (last, 0),
+        (last + 1, 1),
+    ];
+    for (nanoseconds, expected) in moved_to {
+        let heard = Nanoseconds(nanoseconds - 15 * SECOND);
+        let there = orbit::propagate_ecef(sample.table(), heard).unwrap();
+        sample.observer = there.motion.position;
+        sample.samples = vec![heard];
+        let (table, f0) = (sample.table(), sample.centre_frequency);
+        let fit = orbit::fit_satellite(table, sample.recording(), sample.observer, f0, heard);
+        for report in [fit, pass(&sample).0].map(Result::unwrap) {
+            assert_eq!((report.clock_offset, report.count), (FIRST_SHIFT, 1));
+            assert_eq!(report.outside, expected, "{nanoseconds}");
+        }
+    }
+}
+
+/// The clock offset of the sample data with one sample more, which is heard at the table's end, in microseconds; and the frequency of that
+/// sample, by examples/data/make.py.
+const OFFSET_MICROSECONDS: i64 = 2_343_050;
+const AT_THE_END: Hertz = Hertz(401_641_391.13);
+
+#[test]
+fn outside_by_the_offset_in_whole_microseconds() {
+    for (nanoseconds, expected) in [(-1, 0), (0, 0), (1, 1)] {
+        let mut sample = Sample::load();
+        let [_, last] = ends(&sample);
+        let heard = last + OFFSET_MICROSECONDS * 1000 + nanoseconds;
+        sample.samples.push(Nanoseconds(heard));
+        sample.frequencies.push(AT_THE_END);
+        let report = pass(&sample).0.unwrap();
+        let microseconds = report.clock_offset.0 * 1e6;
+        assert_eq!(orbit::truncated(microseconds), OFFSET_MICROSECONDS);
+        assert_eq!((report.count, report.outside), (161, expected));
     }
 }
 

@@ -1,7 +1,7 @@
 //! A frequency stands where the observer's z is meant.
 use orbit::*;
 
-pub fn closest(table: Table, about: Nanoseconds) -> Result<Nanoseconds, Refusal> {
+pub fn closest(table: Table, about: Nanoseconds) -> Result<ClosestApproach, Refusal> {
     let [x, y] = [Metres(3_913_991.0), Metres(281_932.0)];
     #[cfg(mended)]
     let z = Metres(5_019_047.0);

@@ -1,7 +1,7 @@
 //! The observer is given in kilometres, as a bare number.
 use orbit::*;
 
-pub fn closest(table: Table, about: Nanoseconds) -> Result<Nanoseconds, Refusal> {
+pub fn closest(table: Table, about: Nanoseconds) -> Result<ClosestApproach, Refusal> {
     #[cfg(mended)]
     let x = Metres(3_913_991.0);
     #[cfg(not(mended))]
