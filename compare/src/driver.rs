@@ -4,7 +4,7 @@ use crate::tally::{Tally, Total};
 use compare::answers::Answer;
 use compare::calls::{Call, Entry};
 use compare::checks::{self, COORDINATES, SAMPLES};
-use compare::expected;
+use compare::expected::{self, COUNT};
 use compare::inputs::faults::{self, Change};
 use compare::inputs::paper;
 
@@ -13,6 +13,9 @@ pub type Ours = fn(&Call) -> Answer;
 
 /// How many words of a call or an answer are shown.
 const SHOWN: usize = 100;
+
+/// What is noted of the words for where an instant lies: before the first coordinate, from the first to the last, after the last.
+pub const PLACES: [&str; 3] = ["before the table", "within the table", "after the table"];
 
 /// Compares our answer to one call with the expected one, every word; answers the expected one.
 pub fn compare(tally: &mut Tally, entry: Entry, ours: Ours, call: &Call) -> Answer {
@@ -26,7 +29,25 @@ pub fn compare(tally: &mut Tally, entry: Entry, ours: Ours, call: &Call) -> Answ
         _ if expected.has_nan() => tally.note("with a NaN"),
         _ => {}
     }
+    note_place(tally, entry, &expected);
     expected
+}
+
+/// Counts where the instant of an answer lies, or whether all, some or none of a fit's samples or means lie outside the table: the last word says it.
+fn note_place(tally: &mut Tally, entry: Entry, expected: &Answer) {
+    let results = &expected.results;
+    let Some(last) = results.last() else {
+        return;
+    };
+    match entry {
+        Entry::PropagateEcef | Entry::FindPcaTime => tally.note(PLACES[last.bits() as usize]),
+        Entry::FitSatellite | Entry::Pass => tally.note(match last.bits() {
+            0 => "none outside",
+            outside if outside == results[COUNT].bits() => "all outside",
+            _ => "some outside",
+        }),
+        _ => {}
+    }
 }
 
 /// The arguments of a call and both answers, and which word of them is the first that differs.

@@ -3,7 +3,9 @@
 use crate::answers::{Answer, both_areas, doubles, marked_frequencies, marked_instants};
 use crate::calls::{Call, Entry, Part};
 use crate::checks;
-use crate::reference::{self, Measured, Samples};
+use crate::inputs::tables::Table;
+use crate::place;
+use crate::reference::{self, Measured, Report, Samples};
 use crate::words::Word;
 
 /// The refusal where the Rust finds no inverse.
@@ -15,7 +17,8 @@ const NO_SLOPE: u8 = 9;
 /// The refusal where the Rust finds no usable candidate.
 const NO_CANDIDATE: u8 = 10;
 
-/// Where the words of a report have the instant that it was taken about, and the fallback.
+/// Where the words of a report have the count, the instant that it was taken about, and the fallback.
+pub const COUNT: usize = 3;
 pub const APPROACH: usize = 4;
 pub const FALLBACK: usize = 5;
 
@@ -67,19 +70,29 @@ fn evaluation(call: &Call) -> Answer {
     Answer::answered(motion_words(motion))
 }
 
-/// Position and velocity by a table.
+/// Position and velocity by a table, and where the instant lies.
 fn propagation(call: &Call) -> Answer {
     let orbit = reference::orbit(&call.table);
     let motion = reference::propagate(&orbit, reference::instant(call.instant));
-    answer_or(NO_INVERSE, motion.map(motion_words))
+    let words = motion.map(|motion| {
+        let mut words = motion_words(motion);
+        words.push(place_word(&call.table, call.instant));
+        words
+    });
+    answer_or(NO_INVERSE, words)
 }
 
-/// The instant of the closest approach.
+/// The instant of the closest approach, and where it lies.
 fn closest(call: &Call) -> Answer {
     let orbit = reference::orbit(&call.table);
     let found = reference::closest(&orbit, call.observer, reference::instant(call.instant));
-    let found = found.expect("the Rust always finds one");
-    Answer::answered(vec![Word::Whole(reference::nanoseconds(found))])
+    let found = reference::nanoseconds(found.expect("the Rust always finds one"));
+    Answer::answered(vec![Word::Whole(found), place_word(&call.table, found)])
+}
+
+/// Where an instant lies.
+fn place_word(table: &Table, instant: i64) -> Word {
+    Word::Whole(place::place(&table.instants, instant))
 }
 
 /// The count of the means, and the means at the front of the areas.
@@ -112,7 +125,7 @@ fn fit(call: &Call) -> Answer {
     let report = reference::fit(&orbit, &samples, call.observer, call.centre, given.instant);
     answer_or(
         NO_CANDIDATE,
-        report.map(|report| report_words(report, samples.len(), given)),
+        report.map(|report| report_words(report, &call.table, &samples, given)),
     )
 }
 
@@ -121,7 +134,8 @@ fn pass(call: &Call) -> Answer {
     let orbit = reference::orbit(&call.table);
     let samples = reference::samples(&call.recording);
     let (means, report) = reference::pass(&orbit, &samples, call.observer, call.centre);
-    let words = report.map(|report| report_words(report, means.len(), reference::measured(&means)));
+    let words =
+        report.map(|report| report_words(report, &call.table, &means, reference::measured(&means)));
     answer_or(NO_CANDIDATE, words).beside(areas(call, &means))
 }
 
@@ -135,16 +149,22 @@ fn motion_words((position, velocity): ([f64; 3], [f64; 3])) -> Vec<Word> {
     doubles([position, velocity].as_flattened())
 }
 
-/// Clock offset, frequency offset, RMSE, count, the instant that they were taken about, and 1 or 0 for the fallback.
+/// Clock offset, frequency offset, RMSE, count, the instant that they were taken about, 1 or 0 for the fallback, and how many lie outside the table.
 fn report_words(
-    (clock, frequency, rmse): (f64, f64, f64),
-    count: usize,
+    (clock, frequency, rmse): Report,
+    table: &Table,
+    fitted: &Samples,
     measured: Measured,
 ) -> Vec<Word> {
+    let moved = place::earlier(fitted, place::moves(clock));
     let mut words = doubles(&[clock, frequency, rmse]);
-    words.push(Word::Whole(count as i64));
-    words.push(Word::Whole(reference::nanoseconds(measured.instant)));
-    words.push(Word::Whole(i64::from(measured.fallback)));
+    let wholes = [
+        fitted.len() as i64,
+        reference::nanoseconds(measured.instant),
+        i64::from(measured.fallback),
+        place::outside(&table.instants, &moved) as i64,
+    ];
+    words.extend(wholes.map(Word::Whole));
     words
 }
 

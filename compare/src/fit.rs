@@ -1,5 +1,7 @@
 //! The fit and the pass.
 
+mod outside;
+
 use crate::driver::{
     Ours, compare as compare_call, compare_lengths, compare_paper, compare_refusals,
 };
@@ -45,6 +47,7 @@ pub fn compare(total: &mut Total) {
         compare_refusals(total, entry, ours);
     }
     compare_approaches(total);
+    outside::compare(total);
 }
 
 /// Every kind of call, those whose clock offset is known, and long ones.

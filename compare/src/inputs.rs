@@ -8,6 +8,7 @@ pub mod faults;
 pub mod integers;
 pub mod matrices;
 pub mod orbits;
+pub mod outside;
 pub mod paper;
 pub mod passes;
 pub mod polynomials;

@@ -9,5 +9,6 @@ pub mod expected;
 pub mod files;
 pub mod fleet;
 pub mod inputs;
+pub mod place;
 pub mod reference;
 pub mod words;

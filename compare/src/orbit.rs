@@ -1,6 +1,8 @@
 //! The tabulated orbit: model, evaluation, propagation and closest approach.
 
-use crate::driver::{Ours, compare as compare_call, compare_paper, compare_refusals};
+mod ends;
+
+use crate::driver::{Ours, PLACES, compare as compare_call, compare_paper, compare_refusals};
 use crate::ours::orbit as ours;
 use crate::tally::{Tally, Total};
 use crate::timing::{Row, row, row_of_ours, spacing};
@@ -39,6 +41,7 @@ pub fn compare(total: &mut Total) {
     compare_windows(total);
     compare_models(total);
     compare_closest(total);
+    ends::compare(total);
     for (entry, ours) in [
         (Entry::GetChebyshevModel, ours::model as Ours),
         (Entry::Evaluate, ours::evaluation),
@@ -71,6 +74,7 @@ fn compare_tables(total: &mut Total) {
         }
     }
     models.finish(total);
+    propagations.must_have_noted(&PLACES);
     propagations.finish(total);
     evaluations.finish(total);
 }
@@ -187,6 +191,7 @@ fn compare_closest(total: &mut Total) {
             }
         }
     }
+    tally.must_have_noted(&PLACES);
     tally.finish(total);
 }
 
@@ -262,11 +267,14 @@ fn time_propagation(rows: usize, uneven: bool) -> Row {
     let table = minutes_apart(&mut random, rows, uneven);
     let orbit = reference::orbit(&table);
     let instants = timed_instants(&mut random, &table);
-    let mut motion = [0.0; 6];
+    let (mut motion, mut place) = ([0.0; 6], 0);
     row(
         name,
         &instants,
-        |&(n, _)| ours::write_propagation(&table, n, black_box(&mut motion)),
+        |&(n, _)| {
+            let places = black_box((&mut motion, &mut place));
+            ours::write_propagation(&table, n, places.0, places.1)
+        },
         |&(_, instant)| reference::propagate(&orbit, instant),
     )
 }
@@ -276,9 +284,10 @@ fn time_checks(rows: usize) -> Row {
     let name = format!("its checks alone, {rows} rows");
     let mut table = minutes_apart(&mut Random::new(36), rows, false);
     *table.positions.last_mut().expect("a table has rows") = f64::NAN;
-    let mut motion = [0.0; 6];
+    let (mut motion, mut place) = ([0.0; 6], 0);
     row_of_ours(name, &[PRESENT], |&n| {
-        ours::write_propagation(&table, n, black_box(&mut motion))
+        let places = black_box((&mut motion, &mut place));
+        ours::write_propagation(&table, n, places.0, places.1)
     })
 }
 
@@ -291,11 +300,14 @@ fn time_closest(uneven: bool) -> Row {
         .map(|_| draw(&mut random))
         .map(|call| (call.clone(), reference::orbit(&call.table)))
         .collect();
-    let mut found = 0;
+    let (mut found, mut place) = (0, 0);
     row(
         name,
         &calls,
-        |(call, _)| ours::write_closest(call, black_box(&mut found)),
+        |(call, _)| {
+            let places = black_box((&mut found, &mut place));
+            ours::write_closest(call, places.0, places.1)
+        },
         |(call, orbit)| reference::closest(orbit, call.observer, reference::instant(call.instant)),
     )
 }

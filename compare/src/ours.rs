@@ -6,6 +6,8 @@ pub mod approach;
 mod areas;
 #[cfg(feature = "board")]
 pub mod board;
+#[cfg(any(feature = "orbit", feature = "fit"))]
+mod byte;
 #[cfg(feature = "fit")]
 pub mod fit;
 #[cfg(feature = "means")]

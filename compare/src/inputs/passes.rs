@@ -47,16 +47,16 @@ pub const KINDS: [Kind; 16] = [
 ];
 
 /// A satellite over an observer.
-struct Scene {
-    table: Table,
-    observer: [f64; 3],
+pub(super) struct Scene {
+    pub table: Table,
+    pub observer: [f64; 3],
     /// When it is closest.
-    passing: i64,
+    pub passing: i64,
 }
 
 impl Scene {
     /// A low satellite with a row each minute, which passes about the middle of the table.
-    fn draw(random: &mut Random, uneven: bool, rows: usize) -> Self {
+    pub fn draw(random: &mut Random, uneven: bool, rows: usize) -> Self {
         let orbit = Orbit::low(random);
         let gap = 60 * SECOND;
         let start = PRESENT + random.count(0, PRESENT / 10);
@@ -86,7 +86,7 @@ impl Scene {
     }
 
     /// What the observer would hear at these instants of a true clock; the instants are those of a clock that is late.
-    fn heard(&self, truly: &[i64], late: i64, centre: f64) -> Recording {
+    pub fn heard(&self, truly: &[i64], late: i64, centre: f64) -> Recording {
         let orbit = reference::orbit(&self.table);
         let frequencies = truly.iter().map(|&n| {
             let motion = reference::propagate(&orbit, reference::instant(n));
@@ -99,7 +99,13 @@ impl Scene {
     }
 
     /// The call that hears the satellite so; its areas are a little longer than needed.
-    fn call(self, random: &mut Random, recording: Recording, centre: f64, measured: i64) -> Call {
+    pub fn call(
+        self,
+        random: &mut Random,
+        recording: Recording,
+        centre: f64,
+        measured: i64,
+    ) -> Call {
         let samples = recording.instants.len();
         Call {
             table: self.table,
@@ -136,7 +142,7 @@ fn about(instant: i64, samples: usize, apart: i64) -> Vec<i64> {
 }
 
 /// A centre frequency.
-fn centre(random: &mut Random) -> f64 {
+pub(super) fn centre(random: &mut Random) -> f64 {
     random.pick(&[137e6, 400e6, 1.575e9, 2.2e9, 11.325e9])
 }
 

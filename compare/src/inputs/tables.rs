@@ -149,7 +149,7 @@ fn rows(random: &mut Random) -> usize {
 }
 
 /// The offsets put at an epoch: our days, about 1970, long before it, and against either end of the range.
-fn placed(random: &mut Random, offsets: &[i64]) -> Vec<i64> {
+pub(super) fn placed(random: &mut Random, offsets: &[i64]) -> Vec<i64> {
     let first = offsets[0];
     let span = offsets[offsets.len() - 1] - first;
     let earliest = -INSTANT_LIMIT;

@@ -1,6 +1,7 @@
 //! The fit and the pass.
 
 use super::areas::Areas;
+use super::byte::Byte;
 use super::units::{Hertz, Metres, Nanoseconds};
 use super::{answer, marked_double, marked_whole};
 use compare::answers::{Answer, doubles};
@@ -27,6 +28,7 @@ unsafe extern "C" {
         count: &mut u64,
         approach: &mut i64,
         fallback: &mut u8,
+        outside: &mut u64,
     ) -> u8;
     fn orbit_pass(
         instants: *const i64,
@@ -49,18 +51,17 @@ unsafe extern "C" {
         count: &mut u64,
         approach: &mut i64,
         fallback: &mut u8,
+        outside: &mut u64,
     ) -> u8;
 }
 
-/// What stands for a yes or no that was written wider than its byte; no answer is this.
-const WIDER: i64 = -1;
-
-/// The places lent for a report: its three numbers, its count, its instant, and the yes or no, which is the first byte of eight.
+/// The places lent for a report: its three numbers, its count, its instant, the yes or no, and how many lie outside the table.
 pub struct Places {
     report: [f64; 3],
     count: u64,
     approach: i64,
-    fallback: [u8; 8],
+    fallback: Byte,
+    outside: u64,
 }
 
 impl Places {
@@ -70,26 +71,22 @@ impl Places {
             report: [marked_double(); 3],
             count: marked_whole() as u64,
             approach: marked_whole(),
-            fallback: marked_whole().to_le_bytes(),
+            fallback: Byte::marked(),
+            outside: marked_whole() as u64,
         }
     }
 
-    /// Clock offset, frequency offset, RMSE, count, instant, and 1 or 0 for the fallback.
+    /// Clock offset, frequency offset, RMSE, count, instant, 1 or 0 for the fallback, and how many lie outside the table.
     fn words(&self) -> Vec<Word> {
         let mut words = doubles(&self.report);
-        let whole = [self.count as i64, self.approach, self.told()];
+        let whole = [
+            self.count as i64,
+            self.approach,
+            self.fallback.told(),
+            self.outside as i64,
+        ];
         words.extend(whole.map(Word::Whole));
         words
-    }
-
-    /// The yes or no, the marker where it is untouched, and neither where one of the seven bytes behind it was written.
-    fn told(&self) -> i64 {
-        let marked = marked_whole().to_le_bytes();
-        match self.fallback {
-            untouched if untouched == marked => marked_whole(),
-            [fallback, behind @ ..] if behind == marked[1..] => i64::from(fallback),
-            _ => WIDER,
-        }
     }
 }
 
@@ -116,7 +113,8 @@ pub fn write_fit(call: &Call, places: &mut Places) -> u8 {
             &mut places.report,
             &mut places.count,
             &mut places.approach,
-            &mut places.fallback[0],
+            places.fallback.lent(),
+            &mut places.outside,
         )
     }
 }
@@ -152,7 +150,8 @@ pub fn write_pass(
             &mut places.report,
             &mut places.count,
             &mut places.approach,
-            &mut places.fallback[0],
+            places.fallback.lent(),
+            &mut places.outside,
         )
     }
 }

@@ -1,5 +1,6 @@
 //! The tabulated orbit: model, evaluation, propagation, closest approach.
 
+use super::byte::Byte;
 use super::units::{Metres, Nanoseconds};
 use super::{answer, marked_double, marked_whole};
 use compare::answers::{Answer, doubles};
@@ -25,6 +26,7 @@ unsafe extern "C" {
         positions_length: usize,
         instant: Nanoseconds,
         motion: &mut [f64; 6],
+        place: &mut u8,
     ) -> u8;
     fn orbit_find_pca_time(
         instants: *const i64,
@@ -36,6 +38,7 @@ unsafe extern "C" {
         z: Metres,
         instant: Nanoseconds,
         found: &mut i64,
+        place: &mut u8,
     ) -> u8;
 }
 
@@ -60,8 +63,8 @@ pub fn write_evaluation(model: &[f64; 32], instant: i64, motion: &mut [f64; 6]) 
     orbit_evaluate(model, Nanoseconds(instant), motion)
 }
 
-/// The refusal's number, 0 if there is none; then position and velocity by a table are written.
-pub fn write_propagation(table: &Table, instant: i64, motion: &mut [f64; 6]) -> u8 {
+/// The refusal's number, 0 if there is none; then position and velocity by a table are written, and where the instant lies.
+pub fn write_propagation(table: &Table, instant: i64, motion: &mut [f64; 6], place: &mut u8) -> u8 {
     let (instants, positions) = (&table.instants, &table.positions);
     // SAFETY: each pointer is to as many numbers as its length says.
     unsafe {
@@ -72,12 +75,13 @@ pub fn write_propagation(table: &Table, instant: i64, motion: &mut [f64; 6]) -> 
             positions.len(),
             Nanoseconds(instant),
             motion,
+            place,
         )
     }
 }
 
-/// The refusal's number, 0 if there is none; then the instant of the closest approach is written.
-pub fn write_closest(call: &Call, found: &mut i64) -> u8 {
+/// The refusal's number, 0 if there is none; then the instant of the closest approach is written, and where it lies.
+pub fn write_closest(call: &Call, found: &mut i64, place: &mut u8) -> u8 {
     let (instants, positions) = (&call.table.instants, &call.table.positions);
     let [x, y, z] = call.observer.map(Metres);
     // SAFETY: each pointer is to as many numbers as its length says.
@@ -92,6 +96,7 @@ pub fn write_closest(call: &Call, found: &mut i64) -> u8 {
             z,
             Nanoseconds(call.instant),
             found,
+            place,
         )
     }
 }
@@ -113,13 +118,17 @@ pub fn evaluation(call: &Call) -> Answer {
 /// The answer of `propagate_ecef`.
 pub fn propagation(call: &Call) -> Answer {
     let mut motion = [marked_double(); 6];
-    let refusal = write_propagation(&call.table, call.instant, &mut motion);
-    answer(refusal, doubles(&motion))
+    let mut place = Byte::marked();
+    let refusal = write_propagation(&call.table, call.instant, &mut motion, place.lent());
+    let mut words = doubles(&motion);
+    words.push(Word::Whole(place.told()));
+    answer(refusal, words)
 }
 
 /// The answer of `find_pca_time`.
 pub fn closest(call: &Call) -> Answer {
     let mut found = marked_whole();
-    let refusal = write_closest(call, &mut found);
-    answer(refusal, vec![Word::Whole(found)])
+    let mut place = Byte::marked();
+    let refusal = write_closest(call, &mut found, place.lent());
+    answer(refusal, [found, place.told()].map(Word::Whole).into())
 }

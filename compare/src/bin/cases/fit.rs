@@ -3,9 +3,9 @@
 use crate::{faulty, of};
 use compare::calls::{Call, Entry};
 use compare::expected;
-use compare::inputs::approaches;
 use compare::inputs::passes::{self, Kind, Size};
 use compare::inputs::random::Random;
+use compare::inputs::{approaches, outside};
 
 /// All but the paper's are short.
 const SIZE: Size = Size {
@@ -33,6 +33,10 @@ pub fn cases() -> Vec<(Entry, Call)> {
     }
     let approaches = approaches::KINDS.map(|kind| reported(&mut random, kind.draw));
     list.extend(approaches.map(|call| (Entry::Pass, call)));
+    for (entry, seed) in [(Entry::FitSatellite, 91), (Entry::Pass, 92)] {
+        let mut random = Random::new(seed);
+        list.extend(outside::KINDS.map(|draw| (entry, draw(&mut random, entry))));
+    }
     list
 }
 

@@ -6,6 +6,7 @@ use compare::inputs::doubles::power_of_two;
 use compare::inputs::faults::sound;
 use compare::inputs::integers::INSTANT_LIMIT;
 use compare::inputs::orbits::Orbit;
+use compare::inputs::outside;
 use compare::inputs::random::Random;
 use compare::inputs::tables::{self, PRESENT, SECOND, SPACINGS, Spacing, Table};
 use compare::inputs::{closest, polynomials};
@@ -19,10 +20,12 @@ pub fn cases() -> Vec<(Entry, Call)> {
         list.extend(of(entry, by_tables(&mut random)));
         list.extend(faulty::calls(&mut random, entry, true));
     }
+    list.extend(at_the_ends().map(|call| (Entry::PropagateEcef, call)));
     list.extend(of(Entry::Evaluate, by_models(&mut random)));
     let entry = Entry::FindPcaTime;
     list.extend(of(entry, closest_approaches(&mut random)));
     list.extend(faulty::calls(&mut random, entry, true));
+    list.extend(closest_about_the_ends().map(|call| (entry, call)));
     list
 }
 
@@ -35,6 +38,15 @@ fn by_tables(random: &mut Random) -> Vec<Call> {
     }));
     list.extend(SPACINGS.map(|spacing| small(random, spacing)));
     list
+}
+
+/// The first and the last instant of a table, each with those a nanosecond beside it.
+fn at_the_ends() -> [Call; 6] {
+    let sound = sound(10, 1);
+    outside::at_the_ends(&sound.table).map(|instant| Call {
+        instant,
+        ..sound.clone()
+    })
 }
 
 /// A table of nanoseconds of our days: its ten times are one double.
@@ -143,4 +155,12 @@ fn at_rest() -> Call {
     let coordinates = call.table.positions.as_chunks_mut::<3>().0;
     coordinates.fill([1e8, -1e8, 1e8]);
     call
+}
+
+/// Closest approaches there, and before, within and after a table.
+fn closest_about_the_ends() -> [Call; 9] {
+    let mut random = Random::new(71);
+    let (_, table) = outside::low(&mut random);
+    let instants = outside::about_the_ends(&mut random, &table);
+    instants.map(|closest| outside::overhead_at(&mut random, table.clone(), closest))
 }
