@@ -162,8 +162,8 @@ orbit_metres orbit_estimate_slant_range(orbit_hertz f0, double slope);
 
 /* The fit of a recording to a satellite, about the instant of its measured approach. Into count: the number of samples; into approach:
  * that instant again; into fallback: 0, since it was given; into outside: how many of the samples lie before the first coordinate or after
- * the last, once each is moved earlier by the clock offset, cut to whole microseconds, as the fit moves it. Those that have no position
- * there (refusal 8) are counted too. Refuses by 1, 2, 4, 5, 6, 7, 10. */
+ * the last, once each is moved earlier by the clock offset, cut toward zero to whole microseconds, as the fit moves it. A sample without a
+ * position there (refusal 8) is counted if it lies outside, and not if it lies within. Refuses by 1, 2, 4, 5, 6, 7, 10. */
 uint8_t orbit_fit_satellite(const int64_t *instants, size_t instant_count, const double *positions, size_t position_count,
                             const int64_t *samples, size_t sample_count, const double *frequencies, size_t frequency_count,
                             orbit_metres ox, orbit_metres oy, orbit_metres oz, orbit_hertz f0, orbit_nanoseconds measured,

@@ -95,8 +95,9 @@ pub struct Report {
     /// Whether that is the middle mean's, since no slope of the means is below zero; never in a fit.
     pub fallback: bool,
     /// How many of the means or samples lie before the table's first coordinate or after its last, once each is moved earlier by the
-    /// clock offset, cut to whole microseconds; those that have no position there (refusal 8) are counted too. Where any do, the
-    /// clock offset goes by extrapolated positions and may be far off: take an orbit file that holds the whole pass.
+    /// clock offset, cut toward zero to whole microseconds. One without a position there (refusal 8) is counted if it lies outside,
+    /// and not if it lies within. Where any lie outside, the clock offset goes by extrapolated positions and may be far off: take an
+    /// orbit file that holds the whole pass.
     pub outside: u64,
 }
 
