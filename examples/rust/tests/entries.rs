@@ -64,12 +64,15 @@ fn ends(sample: &Sample) -> [i64; 2] {
     [0, sample.instants.len() - 1].map(|row| sample.instants[row].0)
 }
 
-/// How many instants lie before the table's first coordinate or after its last, each moved earlier by a report's clock offset in whole
-/// microseconds.
-fn outside(sample: &Sample, instants: &[Nanoseconds], report: &Report) -> u64 {
-    let moved = (report.clock_offset.0 * 1e6) as i64 * 1000;
+/// A report's clock offset as the fit moves by it: cut to whole microseconds, in nanoseconds.
+fn shift(report: &Report) -> i64 {
+    (report.clock_offset.0 * 1e6) as i64 * 1000
+}
+
+/// How many instants lie before the table's first coordinate or after its last, each moved earlier by so many nanoseconds.
+fn outside(sample: &Sample, instants: &[Nanoseconds], earlier: i64) -> u64 {
     let [first, last] = ends(sample);
-    let lies_outside = |t: &&Nanoseconds| t.0 - moved < first || t.0 - moved > last;
+    let lies_outside = |t: &&Nanoseconds| t.0 - earlier < first || t.0 - earlier > last;
     instants.iter().filter(lies_outside).count() as u64
 }
 
@@ -338,7 +341,7 @@ fn means_outside_the_table() {
         let report = answer.unwrap();
         assert_eq!((report.count, report.outside), (160, expected));
         let means = &instants[..report.count as usize];
-        assert_eq!(report.outside, outside(&sample, means, &report));
+        assert_eq!(report.outside, outside(&sample, means, shift(&report)));
     }
 }
 
@@ -349,7 +352,8 @@ fn samples_outside_the_table() {
         let sample = with_coordinates(rows);
         let report = fit(&sample).unwrap();
         assert_eq!((report.count, report.outside), (400, expected));
-        assert_eq!(report.outside, outside(&sample, &sample.samples, &report));
+        let expected = outside(&sample, &sample.samples, shift(&report));
+        assert_eq!(report.outside, expected);
     }
 }
 
@@ -364,18 +368,23 @@ fn outside_on_both_sides() {
     assert_eq!(reports.map(|report| report.outside), [2, 2]);
 }
 
+/// The table's first two coordinates lie a nanosecond apart, so that about them there is no position: a sample is skipped before the table,
+/// where it is counted, and within it, where it is not.
 #[test]
-fn outside_and_without_a_position() {
-    let mut sample = Sample::load();
-    let [first, _] = ends(&sample);
-    sample.instants.insert(0, Nanoseconds(first - 1));
-    sample.positions.insert(0, sample.positions[0]);
-    let early = Nanoseconds(first - 100 * SECOND);
-    let refused = orbit::propagate_ecef(sample.table(), early);
-    assert_eq!(refused, Err(Refusal::PivotTooSmall));
-    sample.samples[0] = early;
-    let reports = [fit(&sample), pass(&sample).0].map(Result::unwrap);
-    assert_eq!(reports.map(|report| report.outside), [1, 1]);
+fn outside_or_within_and_without_a_position() {
+    for (seconds, expected) in [(-100, 1), (30, 0)] {
+        let mut sample = Sample::load();
+        let [first, _] = ends(&sample);
+        sample.instants.insert(0, Nanoseconds(first - 1));
+        sample.positions.insert(0, sample.positions[0]);
+        sample.samples[0] = Nanoseconds(first + seconds * SECOND);
+        for report in [fit(&sample), pass(&sample).0].map(Result::unwrap) {
+            let moved = Nanoseconds(sample.samples[0].0 - shift(&report));
+            let refused = orbit::propagate_ecef(sample.table(), moved);
+            assert_eq!(refused, Err(Refusal::PivotTooSmall));
+            assert_eq!(report.outside, expected, "{seconds}");
+        }
+    }
 }
 
 /// The first shift that is tried where the measured approach is the closest one. One sample alone fits under every shift equally well, so
@@ -410,23 +419,56 @@ fn outside_by_a_nanosecond() {
     }
 }
 
-/// The clock offset of the sample data with one sample more, which is heard at the table's end, in microseconds; and the frequency of that
-/// sample, by examples/data/make.py.
-const OFFSET_MICROSECONDS: i64 = 2_343_050;
+/// The frequency heard at the table's end, by examples/data/make.py.
 const AT_THE_END: Hertz = Hertz(401_641_391.13);
 
+/// The sample data heard so many seconds earlier, with one sample more so many nanoseconds after the table's last coordinate.
+fn with_a_sample_at_the_end(earlier: i64, after: i64) -> Sample {
+    let mut sample = Sample::load();
+    let [_, last] = ends(&sample);
+    for Nanoseconds(heard) in &mut sample.samples {
+        *heard -= earlier * SECOND;
+    }
+    sample.samples.push(Nanoseconds(last + after));
+    sample.frequencies.push(AT_THE_END);
+    sample
+}
+
+/// Ways to make a clock offset nanoseconds that are wrong: cut to these, and by the nearest microsecond, the one below and the one above.
+const WRONG_SHIFTS: [fn(f64) -> i64; 4] = [
+    |offset| (offset * 1e9) as i64,
+    |offset| (offset * 1e6).round() as i64 * 1000,
+    |offset| (offset * 1e6).floor() as i64 * 1000,
+    |offset| (offset * 1e6).ceil() as i64 * 1000,
+];
+
+/// The clock offset is −656,939.9999999994 microseconds in the first three rows and 2,343,050.000000001 in the others, so that each wrong
+/// shift counts otherwise in one of them.
 #[test]
 fn outside_by_the_offset_in_whole_microseconds() {
-    for (nanoseconds, expected) in [(-1, 0), (0, 0), (1, 1)] {
-        let mut sample = Sample::load();
-        let [_, last] = ends(&sample);
-        let heard = last + OFFSET_MICROSECONDS * 1000 + nanoseconds;
-        sample.samples.push(Nanoseconds(heard));
-        sample.frequencies.push(AT_THE_END);
-        let report = pass(&sample).0.unwrap();
-        let microseconds = report.clock_offset.0 * 1e6;
-        assert_eq!(orbit::truncated(microseconds), OFFSET_MICROSECONDS);
-        assert_eq!((report.count, report.outside), (161, expected));
+    let rows = [
+        (3, -656_939_000, -1, 0, [1, 1, 1, 0]),
+        (3, -656_939_000, 0, 0, [1, 1, 1, 0]),
+        (3, -656_939_000, 1, 1, [1, 1, 1, 1]),
+        (0, 2_343_050_000, 0, 0, [0, 0, 0, 0]),
+        (0, 2_343_050_000, 1, 1, [1, 1, 1, 0]),
+    ];
+    for (earlier, cut, nanoseconds, expected, wrong) in rows {
+        let sample = with_a_sample_at_the_end(earlier, cut + nanoseconds);
+        let (answer, instants, frequencies) = pass(&sample);
+        let report = answer.unwrap();
+        let means = Recording {
+            instants: &instants[..report.count as usize],
+            frequencies: &frequencies[..report.count as usize],
+        };
+        assert_eq!((report.count, shift(&report)), (161, cut));
+        assert_eq!(report.outside, expected, "{nanoseconds}");
+        let counted =
+            |shift: fn(f64) -> i64| outside(&sample, means.instants, shift(report.clock_offset.0));
+        assert_eq!(WRONG_SHIFTS.map(counted), wrong, "{nanoseconds}");
+        let (table, f0) = (sample.table(), sample.centre_frequency);
+        let fit = orbit::fit_satellite(table, means, sample.observer, f0, report.approach);
+        assert_eq!(fit, Ok(report));
     }
 }
 
