@@ -37,7 +37,7 @@ enum {
     LONGEST_FILE = 1 << 20, /* bytes */
     SAMPLES = sizeof recording / sizeof recording[0],
     FEW_SAMPLES = 5, /* too few for an approach: they lie in two seconds */
-    EARLY_COORDINATES = 13, /* too few for the pass: they end during it */
+    EARLY_COORDINATES = 13, /* too few for the pass: in the sample data they end during it */
     MEANS_SHOWN = 3,
     OWN_NUMBER = 1, /* of the pass's satellite on the board, and of another */
     OTHER_NUMBER = 2,
@@ -229,11 +229,12 @@ static const char *place_words(uint8_t place)
     }
 }
 
-static void print_instant_and_place(const char *what, orbit_nanoseconds instant, uint8_t place)
+/* An instant by the table's clock; what is known of it goes behind, on the same line. */
+static void print_instant_by_table(const char *what, orbit_nanoseconds instant)
 {
     printf("%-18s", what);
     print_instant(instant.nanoseconds, "%Y-%m-%d %H:%M:%S");
-    printf(" by the table's clock, %s", place_words(place));
+    printf(" by the table's clock, ");
 }
 
 /* The instant of the closest approach by the table, and where it lies: 0, or the number of the refusal. */
@@ -245,8 +246,8 @@ static uint8_t print_closest(const pass_table *table, const pass_answer *answer)
     const uint8_t refusal = orbit_find_pca_time(table->instants, table->count, table->positions, 3 * table->count,
                                                 o.x, o.y, o.z, answer->approach, &found, &place);
     if (refusal == 0) {
-        print_instant_and_place("closest approach", found, place);
-        printf("\n");
+        print_instant_by_table("closest approach", found);
+        printf("%s\n", place_words(place));
     }
     return refusal;
 }
@@ -260,8 +261,8 @@ static orbit_metres distance_to(const orbit_motion *motion)
 }
 
 /* The instant of the last mean, moved by the clock offset in whole microseconds as the fit moved it, where it lies, and how far the satellite
- * is then by the table: 0, or the number of the refusal. */
-static uint8_t print_last_mean(const pass_table *table, const pass_answer *answer)
+ * is then by the table. Without a position there it is said so, and no error: the fit leaves such a mean out. */
+static void print_last_mean(const pass_table *table, const pass_answer *answer)
 {
     const int64_t microseconds = orbit_truncated(answer->report.clock_offset.seconds * 1e6);
     const orbit_nanoseconds instant = {answer->mean_instants[answer->count - 1] - microseconds * 1000};
@@ -269,18 +270,22 @@ static uint8_t print_last_mean(const pass_table *table, const pass_answer *answe
     uint8_t place;
     const uint8_t refusal = orbit_propagate_ecef(table->instants, table->count, table->positions, 3 * table->count,
                                                  instant, &motion, &place);
+    print_instant_by_table("last mean", instant);
     if (refusal == 0) {
-        print_instant_and_place("last mean", instant, place);
-        printf(", the satellite %.0f m away\n", distance_to(&motion).metres);
+        printf("%s, the satellite %.0f m away\n", place_words(place), distance_to(&motion).metres);
+    } else {
+        printf("no position there (refusal %" PRIu8 ")\n", refusal);
     }
-    return refusal;
 }
 
-/* Both of these: 0, or the number of the refusal. */
+/* Both of these: 0, or the number of the refusal of the closest approach. */
 static uint8_t print_places(const pass_table *table, const pass_answer *answer)
 {
     const uint8_t refusal = print_closest(table, answer);
-    return refusal != 0 ? refusal : print_last_mean(table, answer);
+    if (refusal == 0) {
+        print_last_mean(table, answer);
+    }
+    return refusal;
 }
 
 /* The steepest slope of the means, and the slant range by it: 0, or the number of the refusal. */
@@ -335,7 +340,7 @@ static uint8_t print_pass(const pass_table *table, const pass_recording *samples
     return print_places(table, answer);
 }
 
-/* The pass of the sample data. */
+/* The pass of the sample data: whether it was answered. */
 static bool show_pass(const pass_table *table, const pass_recording *samples, pass_answer *answer)
 {
     uint8_t refusal = print_pass(table, samples, answer);
@@ -347,14 +352,24 @@ static bool show_pass(const pass_table *table, const pass_recording *samples, pa
         print_refusal(refusal);
         return false;
     }
-    return print_known(answer) && answer->outside == 0;
+    return true;
+}
+
+/* Whether the table's first coordinates end while the recording runs, and others follow. */
+static bool ends_early(const pass_table *table, const pass_recording *samples)
+{
+    const int64_t end = table->instants[EARLY_COORDINATES - 1];
+    return table->count > EARLY_COORDINATES && samples->instants[0] <= end && end < samples->instants[SAMPLES - 1];
 }
 
 /* The same pass with an orbit file that ends during it: positions after its end are extrapolated, the clock offset is off, and the report
- * warns. */
+ * warns. It is left out where the table cannot be cut so. */
 static bool show_early_end(const pass_table *table, const pass_recording *samples, pass_answer *answer)
 {
     static pass_table shorter;
+    if (!ends_early(table, samples)) {
+        return true;
+    }
     memcpy(&shorter, table, sizeof shorter);
     shorter.count = EARLY_COORDINATES;
     printf("\nThe same pass, an orbit file that ends during it: its first %d coordinates alone\n", EARLY_COORDINATES);
@@ -457,11 +472,12 @@ int main(int argc, char **argv)
     load_recording(&samples);
     printf("A pass: %d samples, centre frequency %.0f Hz\n", SAMPLES, centre_frequency().hertz);
     const bool answered = show_table(argv[1], &file, &table) && show_pass(&table, &samples, &answer);
+    const bool found = answered && print_known(&answer);
     load_board(&answer, board);
     const bool all_answered = answered && show_early_end(&table, &samples, &answer) && show_few_samples(&table, &samples, &answer) &&
                               show_board(board);
     const bool kilometres_refused = show_kilometres(&table, &samples, &answer);
     const bool commas_refused = show_commas(&file, &table);
     const bool board_refused = show_board_refused(board);
-    return all_answered && kilometres_refused && commas_refused && board_refused ? 0 : 1;
+    return found && all_answered && kilometres_refused && commas_refused && board_refused ? 0 : 1;
 }

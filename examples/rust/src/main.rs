@@ -7,7 +7,7 @@ mod data;
 use data::{Known, LEAP_SECONDS, ORBIT_FILE, SATELLITE, Sample};
 use orbit::{
     Entry, Hertz, MOST_COORDINATES, MOST_SAMPLES, MeansArea, Metres, Nanoseconds, Place, Position,
-    Recording, Refusal, Report, Seconds,
+    Propagation, Recording, Refusal, Report, Seconds,
 };
 use std::process::ExitCode;
 
@@ -20,7 +20,7 @@ const MEANS_SHOWN: usize = 3;
 /// Too few samples for an approach: they lie in two seconds.
 const FEW_SAMPLES: usize = 5;
 
-/// Too few coordinates for the pass: they end during it.
+/// Too few coordinates for the pass: in the sample data they end during it.
 const EARLY_COORDINATES: usize = 13;
 
 /// How many entries the board has.
@@ -102,7 +102,7 @@ fn main() -> ExitCode {
 fn show_all(sample: Sample) -> Result<bool, Refusal> {
     let (report, found) = show_pass(&sample)?;
     let board = board_of(&report);
-    let warned = show_early_end()?;
+    let warned = show_early_end(&sample)?;
     let answered = found & warned & show_few_samples(&sample)? & show_board(&board)?;
     let refused = show_kilometres(sample) & show_commas() & show_board_refused(board);
     Ok(answered & refused)
@@ -125,12 +125,22 @@ fn show_pass(sample: &Sample) -> Result<(Report, bool), Refusal> {
     print_means(means);
     print_slope_and_range(sample.centre_frequency, means)?;
     let found = print_known(&sample.known, &report);
-    Ok((report, found && report.outside == 0))
+    Ok((report, found))
+}
+
+/// Whether the table's first coordinates end while the recording runs, and others follow.
+fn ends_early(sample: &Sample) -> bool {
+    let heard = sample.samples[0]..sample.samples[sample.samples.len() - 1];
+    sample.instants.len() > EARLY_COORDINATES
+        && heard.contains(&sample.instants[EARLY_COORDINATES - 1])
 }
 
 /// The same pass with an orbit file that ends during it: positions after its end are extrapolated, the clock offset is off. Whether
-/// the report warns.
-fn show_early_end() -> Result<bool, Refusal> {
+/// the report warns. It is left out where the table cannot be cut so.
+fn show_early_end(sample: &Sample) -> Result<bool, Refusal> {
+    if !ends_early(sample) {
+        return Ok(true);
+    }
     println!(
         "\nThe same pass, an orbit file that ends during it: its first {EARLY_COORDINATES} coordinates alone"
     );
@@ -233,20 +243,31 @@ fn print_outside(report: &Report) {
 /// The instant of the closest approach and that of the last mean, by the table's clock, and where they lie.
 fn print_places(sample: &Sample, report: &Report, means: Recording) -> Result<(), Refusal> {
     let closest = orbit::find_pca_time(sample.table(), sample.observer, report.approach)?;
-    let when_and_where = instant_and_place(closest.instant, closest.place);
-    println!("closest approach  {when_and_where}");
+    let (instant, place) = (by_table(closest.instant), place_words(closest.place));
+    println!("closest approach  {instant}, {place}");
     let last = moved(means.instants[means.instants.len() - 1], report);
-    let propagation = orbit::propagate_ecef(sample.table(), last)?;
-    let when_and_where = instant_and_place(last, propagation.place);
-    let Metres(distance) = distance(propagation.motion.position, sample.observer);
-    println!("last mean         {when_and_where}, the satellite {distance:.0} m away");
+    let (instant, place) = (by_table(last), place_and_distance(sample, last));
+    println!("last mean         {instant}, {place}");
     Ok(())
 }
 
-/// An instant, and where it lies.
-fn instant_and_place(instant: Nanoseconds, place: Place) -> String {
-    let (date, time, place) = (date_of(instant), time_of_day(instant), place_words(place));
-    format!("{date} {time} UTC by the table's clock, {place}")
+/// An instant by the table's clock.
+fn by_table(instant: Nanoseconds) -> String {
+    let (date, time) = (date_of(instant), time_of_day(instant));
+    format!("{date} {time} UTC by the table's clock")
+}
+
+/// Where an instant lies, and how far the satellite is then by the table. Without a position there it is said so, and no error: the
+/// fit leaves such a mean out.
+fn place_and_distance(sample: &Sample, instant: Nanoseconds) -> String {
+    match orbit::propagate_ecef(sample.table(), instant) {
+        Ok(Propagation { motion, place }) => {
+            let Metres(distance) = distance(motion.position, sample.observer);
+            let place = place_words(place);
+            format!("{place}, the satellite {distance:.0} m away")
+        }
+        Err(refusal) => format!("no position there (refusal {})", refusal.number()),
+    }
 }
 
 /// Where an instant lies, in words.
