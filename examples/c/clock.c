@@ -260,12 +260,18 @@ static orbit_metres distance_to(const orbit_motion *motion)
     return (orbit_metres){orbit_sqrt(x * x + y * y + z * z)};
 }
 
-/* The instant of the last mean, moved by the clock offset in whole microseconds as the fit moved it, where it lies, and how far the satellite
- * is then by the table. Without a position there it is said so, and no error: the fit leaves such a mean out. */
-static void print_last_mean(const pass_table *table, const pass_answer *answer)
+/* An instant by the recorder's clock, moved by the clock offset in whole microseconds as the fit moved it. */
+static orbit_nanoseconds moved(int64_t instant, const pass_answer *answer)
 {
     const int64_t microseconds = orbit_truncated(answer->report.clock_offset.seconds * 1e6);
-    const orbit_nanoseconds instant = {answer->mean_instants[answer->count - 1] - microseconds * 1000};
+    return (orbit_nanoseconds){instant - microseconds * 1000};
+}
+
+/* The instant of the last mean by the table's clock, where it lies, and how far the satellite is then by the table. Without a position there
+ * it is said so, and no error: the fit leaves such a mean out. */
+static void print_last_mean(const pass_table *table, const pass_answer *answer)
+{
+    const orbit_nanoseconds instant = moved(answer->mean_instants[answer->count - 1], answer);
     orbit_motion motion;
     uint8_t place;
     const uint8_t refusal = orbit_propagate_ecef(table->instants, table->count, table->positions, 3 * table->count,
@@ -355,19 +361,20 @@ static bool show_pass(const pass_table *table, const pass_recording *samples, pa
     return true;
 }
 
-/* Whether the table's first coordinates end while the recording runs, and others follow. */
-static bool ends_early(const pass_table *table, const pass_recording *samples)
+/* Whether the table's first coordinates end during the pass that was answered, and others follow. */
+static bool ends_early(const pass_table *table, const pass_recording *samples, const pass_answer *answer)
 {
     const int64_t end = table->instants[EARLY_COORDINATES - 1];
-    return table->count > EARLY_COORDINATES && samples->instants[0] <= end && end < samples->instants[SAMPLES - 1];
+    return table->count > EARLY_COORDINATES && moved(samples->instants[0], answer).nanoseconds <= end &&
+           end < moved(samples->instants[SAMPLES - 1], answer).nanoseconds;
 }
 
 /* The same pass with an orbit file that ends during it: positions after its end are extrapolated, the clock offset is off, and the report
- * warns. It is left out where the table cannot be cut so. */
+ * warns. It is left out where the table cannot be cut so. Whether it was answered. */
 static bool show_early_end(const pass_table *table, const pass_recording *samples, pass_answer *answer)
 {
     static pass_table shorter;
-    if (!ends_early(table, samples)) {
+    if (!ends_early(table, samples, answer)) {
         return true;
     }
     memcpy(&shorter, table, sizeof shorter);
@@ -376,9 +383,8 @@ static bool show_early_end(const pass_table *table, const pass_recording *sample
     const uint8_t refusal = print_pass(&shorter, samples, answer);
     if (refusal != 0) {
         print_refusal(refusal);
-        return false;
     }
-    return answer->outside > 0;
+    return refusal == 0;
 }
 
 /* The pass of the first few samples shows no approach, so that it is taken about the middle mean. */

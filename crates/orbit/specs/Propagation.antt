@@ -64,7 +64,7 @@ abbrev pub propagateEcef : List ℤ → List Float → ℤ → Outcome (Located 
 propagateEcef instants positions t =
     unlessRefused (firstFailing (propagationChecks instants positions t)) (mapped (located instants t) (propagated evenTolerance instants positions t))
 
--- the paper's number and values of each case of `evaluate`'s answer
+-- the paper's number and values of each case of `evaluate`'s answer, and of the propagation inside fit and closest approach
 abbrev pub motionIn : MotionAnswer → Outcome Motion
 motionIn (motion.At p v) = answered (record { position = p; velocity = v })
 motionIn (motion.Refused n) = refused n

@@ -102,8 +102,8 @@ fn main() -> ExitCode {
 fn show_all(sample: Sample) -> Result<bool, Refusal> {
     let (report, found) = show_pass(&sample)?;
     let board = board_of(&report);
-    let warned = show_early_end(&sample)?;
-    let answered = found & warned & show_few_samples(&sample)? & show_board(&board)?;
+    show_early_end(&sample, &report)?;
+    let answered = found & show_few_samples(&sample)? & show_board(&board)?;
     let refused = show_kilometres(sample) & show_commas() & show_board_refused(board);
     Ok(answered & refused)
 }
@@ -128,18 +128,19 @@ fn show_pass(sample: &Sample) -> Result<(Report, bool), Refusal> {
     Ok((report, found))
 }
 
-/// Whether the table's first coordinates end while the recording runs, and others follow.
-fn ends_early(sample: &Sample) -> bool {
-    let heard = sample.samples[0]..sample.samples[sample.samples.len() - 1];
+/// Whether the table's first coordinates end during the pass that was reported, and others follow.
+fn ends_early(sample: &Sample, report: &Report) -> bool {
+    let (first, last) = (sample.samples[0], sample.samples[sample.samples.len() - 1]);
+    let heard = moved(first, report)..moved(last, report);
     sample.instants.len() > EARLY_COORDINATES
         && heard.contains(&sample.instants[EARLY_COORDINATES - 1])
 }
 
-/// The same pass with an orbit file that ends during it: positions after its end are extrapolated, the clock offset is off. Whether
-/// the report warns. It is left out where the table cannot be cut so.
-fn show_early_end(sample: &Sample) -> Result<bool, Refusal> {
-    if !ends_early(sample) {
-        return Ok(true);
+/// The same pass with an orbit file that ends during it: positions after its end are extrapolated, the clock offset is off, and the
+/// report warns. It is left out where the table cannot be cut so.
+fn show_early_end(sample: &Sample, report: &Report) -> Result<(), Refusal> {
+    if !ends_early(sample, report) {
+        return Ok(());
     }
     println!(
         "\nThe same pass, an orbit file that ends during it: its first {EARLY_COORDINATES} coordinates alone"
@@ -150,8 +151,7 @@ fn show_early_end(sample: &Sample) -> Result<bool, Refusal> {
     let mut areas = Areas::new();
     let report = run_pass(&shorter, shorter.recording(), &mut areas)?;
     print_report(&report);
-    print_places(&shorter, &report, areas.means(&report))?;
-    Ok(report.outside > 0)
+    print_places(&shorter, &report, areas.means(&report))
 }
 
 /// The pass of the first few samples shows no approach; whether it was taken about the middle mean.

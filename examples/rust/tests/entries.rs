@@ -442,7 +442,7 @@ const WRONG_SHIFTS: [fn(f64) -> i64; 4] = [
     |offset| (offset * 1e6).ceil() as i64 * 1000,
 ];
 
-/// The clock offset is −656,939.9999999994 microseconds in the first three rows and 2,343,050.000000001 in the others, so that each wrong
+/// The clock offset is −656,939.9999999994 microseconds in the first three rows and 2,343,050.0000000014 in the others, so that each wrong
 /// shift counts otherwise in one of them.
 #[test]
 fn outside_by_the_offset_in_whole_microseconds() {
