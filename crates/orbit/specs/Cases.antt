@@ -14,7 +14,10 @@ use Rattle.orbit.specs.Residuals.{outsideCount}
 abbrev table : List ℤ
 table = negsuc 0 ∷ pos 4000 ∷ pos 9000 ∷ []
 
-pub placeCases : (placeOf table (negsuc 1) ≡ Before) × (placeOf table (negsuc 0) ≡ Within) × (placeOf table (pos 9000) ≡ Within) × (placeOf table (pos 9001) ≡ After)
+pub placeCases : (placeOf table (negsuc 1) ≡ Before)
+    × (placeOf table (negsuc 0) ≡ Within)
+    × (placeOf table (pos 9000) ≡ Within)
+    × (placeOf table (pos 9001) ≡ After)
 placeCases = (refl, refl, refl, refl)
 
 -- 2^-19 s either way, which is 1,907 ns and some, moves by 1,000 ns: to 1 ns before the table, to its first coordinate and to its last; later by as much,
