@@ -1,0 +1,17 @@
+-- Below j the numbers have their share added, from j on they are as they were. Assumes nothing.
+use mathlib.Core.Path.{◌≡◌, refl, ap}
+use Prim.Native.Nat.{ℕ, ◌-◌, ◌≤◌, ◌<◌}
+use native.Mathlib.Omega.{arith}
+use native.Mathlib.Nat.{le_refl}
+use lib.ListN.{length, get_or, length-set}
+use lib.Ieee.{Float, nan, binary64, add, mul}
+use borrow.Author.Count.{below_none}
+use Rattle.common.proofs.Filled.{filled, filled_more, rest_kept}
+use borrow.Author.Rules.{rules}
+use Rattle.chebyshev.proofs.coefficients.add_scaled.Given as goal
+
+abbrev pub invariant-loop-j : goal.invariant-loop-j
+invariant-loop-j l = (l.j ≤ 10) × (length l.out ≡ 10) × ((k : ℕ) → k < l.j → get_or l.out k nan ≡ add binary64 (get_or l.initial.out k nan) (mul binary64 (get_or l.column k nan) l.x)) × ((k : ℕ) → l.j ≤ k → get_or l.out k nan ≡ get_or l.initial.out k nan)
+
+abbrev pub decreases-loop-j : goal.decreases-loop-j
+decreases-loop-j l = 10 - l.j

@@ -1,0 +1,51 @@
+-- `best` is the best row so far and `most` its magnitude; the search from row r on ends where the whole search does. Assumes nothing.
+use mathlib.Core.Logic.{⊎_elim}
+use mathlib.Core.Bool.{true, false}
+use mathlib.Core.Path.{◌≡◌, refl, ◌∙◌, sym, ap}
+use Prim.Native.Nat.{ℕ, ◌≤◌, ◌<◌, ◌-◌, ◌+◌}
+use native.Mathlib.Omega.{arith}
+use Rattle.float.specs.Signs.{magnitude_of}
+use Rattle.common.specs.Lists.{list_of}
+use Rattle.common.specs.Search.{first_best}
+use Rattle.common.proofs.Search.{search_end}
+use Rattle.chebyshev.specs.Inverse.{cell, greater, pivot_row}
+use Rattle.chebyshev.proofs.Pivots.{pivot_step}
+use borrow.Author.Rules.{rules}
+use Rattle.chebyshev.proofs.inverse.pivot_row.Goals as goal
+
+pub loop-r-init : goal.loop-r-init
+loop-r-init c = (search rules, search rules, search rules, search rules, refl)
+
+pub loop-r-preserved : goal.loop-r-preserved
+loop-r-preserved c =
+    let mag = c.magnitude-x in
+    let at = c.loop-r in
+    let args = c.args in
+    let m = args.m.now in
+    let h : at.r < 10 = omega arith in
+    ⊎_elim
+    (λ w. (
+      search rules,
+      search rules,
+      omega (arith, w.1),
+      w.2 ∙ mag.ensures ∙ ap (λ (k : ℕ). magnitude_of (cell m k args.i)) (sym w.1),
+      ap (λ (k : ℕ). first_best (greater args.i m) k (list_of (λ s. s) (10 - (at.r + 1)) (at.r + 1))) w.1
+          ∙ pivot_step args.i m at.r at.best at.most mag.result true h at.invariant.3 mag.ensures w.0.taken
+          ∙ at.invariant.4,
+    ))
+    (λ w. (
+      search rules,
+      search rules,
+      omega (arith, w.1),
+      w.2 ∙ at.invariant.3 ∙ ap (λ (k : ℕ). magnitude_of (cell m k args.i)) (sym w.1),
+      ap (λ (k : ℕ). first_best (greater args.i m) k (list_of (λ s. s) (10 - (at.r + 1)) (at.r + 1))) w.1
+          ∙ pivot_step args.i m at.r at.best at.most mag.result false h at.invariant.3 mag.ensures w.0.left
+          ∙ at.invariant.4,
+    ))
+    c.if-x-most.branch
+
+pub returns : goal.returns
+returns c =
+    let at = c.loop-r in
+    let args = c.args in
+    (search rules, sym (search_end (greater args.i args.m.now) (λ s. s) 10 at.r at.best (omega arith)) ∙ at.invariant.4)

@@ -1,0 +1,20 @@
+-- `best` is the best row so far and `most` its magnitude; the search from row r on ends where the whole search does. Assumes nothing.
+use mathlib.Core.Logic.{⊎_elim}
+use mathlib.Core.Bool.{true, false}
+use mathlib.Core.Path.{◌≡◌, refl, ◌∙◌, sym, ap}
+use Prim.Native.Nat.{ℕ, ◌≤◌, ◌<◌, ◌-◌, ◌+◌}
+use native.Mathlib.Omega.{arith}
+use Rattle.float.specs.Signs.{magnitude_of}
+use Rattle.common.specs.Lists.{list_of}
+use Rattle.common.specs.Search.{first_best}
+use Rattle.common.proofs.Search.{search_end}
+use Rattle.chebyshev.specs.Inverse.{cell, greater, pivot_row}
+use Rattle.chebyshev.proofs.Pivots.{pivot_step}
+use borrow.Author.Rules.{rules}
+use Rattle.chebyshev.proofs.inverse.pivot_row.Given as goal
+
+abbrev pub invariant-loop-r : goal.invariant-loop-r
+invariant-loop-r l = (l.i < l.r) × (l.r ≤ 10) × (l.best < 10) × (l.most ≡ magnitude_of (cell l.m l.best l.i)) × (first_best (greater l.i l.m) l.best (list_of (λ s. s) (10 - l.r) l.r) ≡ pivot_row l.i l.m)
+
+abbrev pub decreases-loop-r : goal.decreases-loop-r
+decreases-loop-r l = 10 - l.r

@@ -1,0 +1,12 @@
+-- Check after check, each by what its function said of it; in turn they give the first that fails. Assumes nothing.
+use mathlib.Core.Path.{refl, ◌∙◌}
+use borrow.Author.Rules.{rules}
+use Rattle.checks.proofs.First.{numbered, in_turn, in_turn_lem, one_more}
+use Rattle.checks.proofs.entries.refuse_samples.Goals as goal
+
+pub returns : goal.returns
+unfolding in_turn numbered
+returns c =
+    let e1 = one_more 2 {r = 0} refl c.or_else-refusal.ensures c.unsampled.ensures in
+    let e2 = one_more 4 e1 c.or_else.ensures c.any_beyond.ensures in
+    e2 ∙ in_turn_lem _ tt

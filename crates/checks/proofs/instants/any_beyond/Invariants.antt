@@ -1,0 +1,19 @@
+-- The search from index i on ends as the whole search does. Assumes nothing.
+use mathlib.Core.Path.{◌≡◌, refl}
+use Prim.Native.Nat.{◌≤◌, ◌-◌}
+use native.Mathlib.Omega.{arith}
+use borrow.Author.Rules.{rules}
+use lib.ListN.{length, get_or, drop}
+use lib.IntN.{pos}
+use mir.Syntax.{w64}
+use mir.Val.{SFits}
+use Rattle.checks.specs.Checks.{any, beyond}
+use Rattle.checks.proofs.Orders.{said}
+use Rattle.checks.proofs.Lists.{any_found, any_more, any_none}
+use Rattle.checks.proofs.instants.any_beyond.Given as goal
+
+abbrev pub invariant-loop-i : goal.invariant-loop-i
+invariant-loop-i l = (l.i ≤ length l.instants) × (l.i-end ≡ length l.instants) × (any beyond (drop l.i l.instants) ≡ any beyond l.instants)
+
+abbrev pub decreases-loop-i : goal.decreases-loop-i
+decreases-loop-i l = length l.instants - l.i
