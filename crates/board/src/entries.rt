@@ -12,7 +12,7 @@ pub const MOST_ENTRIES: usize = 64;
 // What one boat has of a satellite: the satellite's number, the measured instant, and the three doubles of its report. It has C's layout, since the
 // export takes a slice of them.
 #[repr(C)]
-#[derive(Drop)]
+#[derive(Clone, Copy)]
 pub struct Entry {
     pub satellite: u16,
     pub instant: Nanoseconds,

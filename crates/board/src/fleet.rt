@@ -9,7 +9,7 @@ use float::nearest;
 use units::Seconds;
 
 // The board's clock offset, or the refusal (14, 15).
-#[derive(Drop)]
+#[derive(Clone, Copy)]
 pub enum BoardAnswer {
     Offset(Seconds),
     Refused(u8),

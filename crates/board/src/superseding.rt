@@ -5,7 +5,7 @@ ghost use Rattle.board.specs.Superseding.{supersedes};
 use crate::entries::Entry;
 
 // An entry with its place in the list, counted from 0 at the front.
-#[derive(Drop)]
+#[derive(Clone, Copy)]
 pub(crate) struct Placed {
     pub(crate) place: usize,
     pub(crate) entry: Entry,

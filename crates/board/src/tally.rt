@@ -9,7 +9,7 @@ use units::Seconds;
 
 // The place of the entry that is judged, and the place that it is compared with next; of the entries before it the sum of the survivors' clock offsets, how
 // many survive, and whether a double of any is not finite.
-#[derive(Drop)]
+#[derive(Clone, Copy)]
 pub(crate) struct Tally {
     pub(crate) judged: usize,
     pub(crate) against: usize,

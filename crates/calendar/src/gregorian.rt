@@ -3,7 +3,7 @@ ghost use Rattle.std.specs.Prelude.{◌≡◌, ◌≤◌};
 ghost use Rattle.calendar.specs.Gregorian.{months_in_year, leap, days_of_month, real_date, real_time, real};
 
 // A date and time of the Gregorian calendar, months and days from 1.
-#[derive(Drop)]
+#[derive(Clone, Copy)]
 pub struct Calendar {
     pub year: u16,
     pub month: u8,

@@ -9,7 +9,7 @@ use crate::gregorian::{Calendar, HOURS_IN_DAY, MINUTES_IN_HOUR, SECONDS_IN_MINUT
 use units::{LeapSeconds, Nanoseconds, SECOND};
 
 // What a calendar is: an instant, no real date and time, or one whose instant is beyond the limit of check 4.
-#[derive(Drop)]
+#[derive(Clone, Copy)]
 pub enum InstantAnswer {
     At(Nanoseconds),
     Unreal,

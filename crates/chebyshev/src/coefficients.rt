@@ -22,7 +22,7 @@ fn coefficients_by(inverse: [[f64; 10]; 10], positions: [f64; 10]) -> [f64; 10]
 }
 
 // 0 and the coefficients of x, y and z, ten each; or the refusal 8 and zeros.
-#[derive(Drop)]
+#[derive(Clone, Copy)]
 pub struct Coefficients {
     pub refusal: u8,
     pub cx: [f64; 10],

@@ -172,7 +172,7 @@ fn flatten(m: [[f64; 10]; 10]) -> [f64; 100]
 }
 
 // 0 and the inverse, row after row; or the refusal 8 and a hundred zeros.
-#[derive(Drop)]
+#[derive(Clone, Copy)]
 pub struct Inverse {
     pub refusal: u8,
     pub numbers: [f64; 100],

@@ -28,7 +28,7 @@ fn slopes_from(tau: f64, t: [f64; 10]) -> [f64; 10]
 }
 
 // T0 to T9 at a τ, and their slopes there for each unit of τ.
-#[derive(Drop)]
+#[derive(Clone, Copy)]
 pub struct Polynomials {
     pub values: [f64; 10],
     pub slopes: [f64; 10],
@@ -55,7 +55,7 @@ pub fn weighted_sum(c: [f64; 10], t: [f64; 10]) -> f64
 }
 
 // A Chebyshev sum at τ and its slope there, for each unit of τ.
-#[derive(Drop)]
+#[derive(Clone, Copy)]
 pub struct Evaluation {
     pub value: f64,
     pub slope: f64,

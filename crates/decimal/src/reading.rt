@@ -3,14 +3,14 @@ ghost use Rattle.std.specs.Prelude.{◌≡◌, ◌^◌, ◌≤◌, ◌<◌, leng
 ghost use Rattle.decimal.specs.Reading.{most_columns, after_blanks, digits_behind, some_digits, signed_digits, whole_of, decimal_of};
 
 // A number by its sign and its digits, the point left out.
-#[derive(Drop)]
+#[derive(Clone, Copy)]
 pub struct Number {
     pub negative: bool,
     pub digits: u64,
 }
 
 // What stands in some columns: a number, or something else.
-#[derive(Drop)]
+#[derive(Clone, Copy)]
 pub enum Field {
     Holds(Number),
     NoNumber,

@@ -14,14 +14,14 @@ use float::LARGEST_FINITE;
 use units::{Nanoseconds, Observer, Position, SECOND, Seconds};
 
 // The instant of the closest approach and where it lies in respect of the table, or the refusal (1, 4, 5, 6).
-#[derive(Drop)]
+#[derive(Clone, Copy)]
 pub enum ClosestApproach {
     At(Nanoseconds, Place),
     Refused(u8),
 }
 
 // The offsets of a stage, in whole seconds: `count` of them from `first` on, each `step` after the last.
-#[derive(Drop)]
+#[derive(Clone, Copy)]
 struct Offsets {
     first: i64,
     step: u64,
@@ -41,7 +41,7 @@ const SECONDS_BEFORE: i64 = 60;
 const SECONDS_COUNT: u64 = 121;
 
 // The least squared range so far, in square metres, and its offset in seconds.
-#[derive(Drop)]
+#[derive(Clone, Copy)]
 struct LeastRange {
     range: f64,
     offset: i64,

@@ -20,7 +20,7 @@ use units::{Hertz, MILLISECOND, Nanoseconds, Observer, SECOND_MILLISECONDS, Seco
 // Clock offset, frequency offset, RMSE of the residuals, how many samples or means were fitted, the instant that the offset was taken about, and
 // whether that is the fallback: the middle mean's, since no slope of the means is below zero. A fit that is given its instant reports that, and no.
 // Last, how many of the samples or means, moved by the clock offset as the fit moved them, lie outside the table.
-#[derive(Drop)]
+#[derive(Clone, Copy)]
 pub struct Report {
     pub clock_offset: Seconds,
     pub frequency_offset: Hertz,
@@ -32,14 +32,14 @@ pub struct Report {
 }
 
 // The report, or the refusal (1 to 7, 10).
-#[derive(Drop)]
+#[derive(Clone, Copy)]
 pub enum FitAnswer {
     Reported(Report),
     Refused(u8),
 }
 
 // The instant that a fit is taken about, and whether it is the fallback.
-#[derive(Drop)]
+#[derive(Clone, Copy)]
 pub(crate) struct Measured {
     pub(crate) instant: Nanoseconds,
     pub(crate) fallback: bool,

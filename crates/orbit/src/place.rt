@@ -5,7 +5,7 @@ ghost use Rattle.orbit.specs.Place.{place_of, is_outside};
 use units::Nanoseconds;
 
 // Before the first coordinate, from the first to the last, or after the last. Outside the table positions are extrapolated.
-#[derive(Drop)]
+#[derive(Clone, Copy)]
 pub enum Place {
     Before,
     Within,

@@ -12,14 +12,14 @@ use checks::{refuse_evaluation, refuse_propagation};
 use units::{Nanoseconds, Position, Seconds, Velocity};
 
 // Position in metres and velocity in metres for each second, or the refusal (4 of `evaluate`, 8 of a window).
-#[derive(Drop)]
+#[derive(Clone, Copy)]
 pub enum MotionAnswer {
     At(Position, Velocity),
     Refused(u8),
 }
 
 // Position and velocity by a table, and where the instant lies in respect of it, or the refusal (1, 4, 5, 6, 8).
-#[derive(Drop)]
+#[derive(Clone, Copy)]
 pub enum Propagation {
     At(Position, Velocity, Place),
     Refused(u8),

@@ -2,7 +2,7 @@
 use units::{Hertz, Observer, Seconds};
 
 // Where the receiver stands, the centre frequency, and how far a gap of an even window may be off the mean gap.
-#[derive(Drop)]
+#[derive(Clone, Copy)]
 pub(crate) struct Settings {
     pub(crate) observer: Observer,
     pub(crate) f0: Hertz,

@@ -35,7 +35,7 @@ const MICRO_STEPS: u64 = 201;
 const FAR_CENTRE: Seconds = Seconds(5.0);
 
 // A stage: `steps` shifts from `start` on, each `increment` after the last.
-#[derive(Drop)]
+#[derive(Clone, Copy)]
 pub(crate) struct Stage {
     pub(crate) start: Seconds,
     pub(crate) increment: Seconds,
@@ -43,7 +43,7 @@ pub(crate) struct Stage {
 }
 
 // The least RMSE so far, its shift and its frequency offset.
-#[derive(Drop)]
+#[derive(Clone, Copy)]
 pub(crate) struct LeastSoFar {
     pub(crate) rmse: Hertz,
     pub(crate) shift: Seconds,

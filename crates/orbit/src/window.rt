@@ -17,7 +17,7 @@ use units::{Nanoseconds, Seconds};
 const BILLIONTH: f64 = 1e-9;
 
 // Two end times and ten coefficients for each axis: the position at τ is the Chebyshev sum, in metres.
-#[derive(Drop)]
+#[derive(Clone, Copy)]
 pub struct ChebyshevOrbit {
     pub t0: Seconds,
     pub t9: Seconds,
@@ -27,7 +27,7 @@ pub struct ChebyshevOrbit {
 }
 
 // 0 and the model, or the refusal (1, 4, 5, 6, 8) and a model of zeros.
-#[derive(Drop)]
+#[derive(Clone, Copy)]
 pub struct Model {
     pub refusal: u8,
     pub orbit: ChebyshevOrbit,

@@ -12,21 +12,21 @@ use units::{MILLISECOND, Nanoseconds, SECOND_MILLISECONDS, Seconds};
 const SLOPE_FLOOR: f64 = -120.0;
 
 // The measured approach: its instant, or the refusal (2, 4; 9 where no slope is below zero).
-#[derive(Drop)]
+#[derive(Clone, Copy)]
 pub enum Approach {
     At(Nanoseconds),
     Refused(u8),
 }
 
 // The steepest slope in hertz for each second, or the refusal (2, 4).
-#[derive(Drop)]
+#[derive(Clone, Copy)]
 pub enum Slope {
     Steepest(f64),
     Refused(u8),
 }
 
 // A slope in hertz for each second, and the index of its middle sample.
-#[derive(Drop)]
+#[derive(Clone, Copy)]
 struct LeastSlope {
     slope: f64,
     middle: usize,

@@ -13,7 +13,7 @@ use checks::MOST_SAMPLES;
 const FEW_SAMPLES: usize = 64;
 
 // How many means were written, or the refusal (2, 3, 4).
-#[derive(Drop)]
+#[derive(Clone, Copy)]
 pub enum Downsampled {
     Count(usize),
     Refused(u8),

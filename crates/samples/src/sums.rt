@@ -9,14 +9,14 @@ use float::nearest;
 use units::{Hertz, MICROSECOND, Nanoseconds, SECOND};
 
 // The sums over some samples: of their offsets from a base, in whole microseconds, and of their frequencies, in hertz.
-#[derive(Drop)]
+#[derive(Clone, Copy)]
 struct Sums {
     micros: i64,
     hertz: f64,
 }
 
 // The mean of a second's samples.
-#[derive(Drop)]
+#[derive(Clone, Copy)]
 pub(crate) struct Mean {
     pub(crate) instant: Nanoseconds,
     pub(crate) frequency: Hertz,

@@ -7,7 +7,7 @@ use crate::text::{after_lines, begins, line_end};
 use units::LeapSeconds;
 
 // A file's time system: its instants less so many leap seconds, three other bytes, or not three bytes.
-#[derive(Drop)]
+#[derive(Clone, Copy)]
 pub(crate) enum TimeSystem {
     Less(LeapSeconds),
     Other,

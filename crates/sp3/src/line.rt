@@ -11,7 +11,7 @@ use units::{Metres, Nanoseconds, Position};
 
 // An epoch by its instant, a position of the satellite, that the position is absent, something that is not by the description, or nothing that is
 // looked at.
-#[derive(Drop)]
+#[derive(Clone, Copy)]
 pub(crate) enum Line {
     Epoch(Nanoseconds),
     Located(Position),

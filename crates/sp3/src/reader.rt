@@ -10,7 +10,7 @@ use checks::AXES;
 use units::LeapSeconds;
 
 // How many records were read, or the refusal.
-#[derive(Drop)]
+#[derive(Clone, Copy)]
 pub enum Sp3Read {
     Count(usize),
     Refused(u8),

@@ -12,7 +12,7 @@ use checks::AXES;
 use units::Nanoseconds;
 
 // How many records are kept, or that something is not by the description.
-#[derive(Drop)]
+#[derive(Clone, Copy)]
 pub(crate) enum Looked {
     Found(usize),
     Undescribed,

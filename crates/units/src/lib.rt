@@ -4,31 +4,31 @@
 
 // A length in metres.
 #[repr(C)]
-#[derive(Drop)]
+#[derive(Clone, Copy)]
 pub struct Metres(pub f64);
 
 // A time in seconds.
 #[repr(C)]
-#[derive(Drop)]
+#[derive(Clone, Copy)]
 pub struct Seconds(pub f64);
 
 // A frequency in hertz.
 #[repr(C)]
-#[derive(Drop)]
+#[derive(Clone, Copy)]
 pub struct Hertz(pub f64);
 
 // An instant, or a time, as a count of nanoseconds; of an instant, since 1970-01-01 without leap seconds.
 #[repr(C)]
-#[derive(Drop)]
+#[derive(Clone, Copy)]
 pub struct Nanoseconds(pub i64);
 
 // A count of leap seconds: how far GPS time is ahead of UTC.
 #[repr(C)]
-#[derive(Drop)]
+#[derive(Clone, Copy)]
 pub struct LeapSeconds(pub i16);
 
 // A satellite's ECEF position, in metres.
-#[derive(Drop)]
+#[derive(Clone, Copy)]
 pub struct Position {
     pub x: f64,
     pub y: f64,
@@ -36,7 +36,7 @@ pub struct Position {
 }
 
 // A satellite's ECEF velocity, in metres for each second.
-#[derive(Drop)]
+#[derive(Clone, Copy)]
 pub struct Velocity {
     pub x: f64,
     pub y: f64,
@@ -44,7 +44,7 @@ pub struct Velocity {
 }
 
 // Where the receiver stands, ECEF.
-#[derive(Drop)]
+#[derive(Clone, Copy)]
 pub struct Observer {
     pub x: Metres,
     pub y: Metres,

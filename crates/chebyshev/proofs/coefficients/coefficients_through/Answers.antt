@@ -36,7 +36,7 @@ unfolding of_bits
 returns-then-refusal-ne0 c =
     let a = c.args in
     let call = c.gauss_jordan-inverse in
-    refused_is (inverted a.nodes) a.x a.y a.z call.new.refusal.0 call.ensures.1 c.if-refusal-ne0.true
+    refused_is (inverted a.nodes) a.x a.y a.z call.new.refusal call.ensures.1 c.if-refusal-ne0.true
 
 pub returns : goal.returns
 returns c =

@@ -1,5 +1,6 @@
 -- The columns from i on make, of the matrices as they are, the outcome of the whole; so a refused column is the refusal, and after the last the
 -- second matrix is the inverse. Assumes nothing.
+use mathlib.Core.Bool.{not}
 use Prim.Native.Nat.{◌≤◌, ◌-◌}
 use native.Mathlib.Omega.{arith}
 use mathlib.Core.Path.{◌≡◌, refl, sym, ap, ◌∙◌}
@@ -20,14 +21,14 @@ unfolding of_bits
 returns-then-not-clear_column c =
     let at = c.loop-i in
     let call = c.clear_column in
-    let e = sym (columns-refused at.i at.t at.v call.new.t call.new.v.0 call.result (omega arith) call.ensures c.if-not-clear_column.true) ∙ at.invariant.1 in
+    let e = sym (columns-refused at.i at.t at.v call.new.t call.new.v call.result (omega arith) call.ensures (ap not c.if-not-clear_column.true)) ∙ at.invariant.1 in
     (ap rows_of e, ap refusal_in e)
 
 pub loop-i-preserved : goal.loop-i-preserved
 loop-i-preserved c =
     let at = c.loop-i in
     let call = c.clear_column in
-    (search rules, columns_turn at.i at.t at.v call.new.t call.new.v.0 call.result (omega arith) call.ensures c.if-not-clear_column.false ∙ at.invariant.1)
+    (search rules, columns_turn at.i at.t at.v call.new.t call.new.v call.result (omega arith) call.ensures (ap not c.if-not-clear_column.false) ∙ at.invariant.1)
 
 pub returns : goal.returns
 returns c =

@@ -12,6 +12,7 @@ use Rattle.chebyshev.specs.Inverse.{cell, greater, pivot_row}
 use Rattle.chebyshev.proofs.Pivots.{pivot_step}
 use borrow.Author.Rules.{rules}
 use Rattle.chebyshev.proofs.inverse.pivot_row.Goals as goal
+use Rattle.chebyshev.proofs.inverse.pivot_row.Goals.{then-x-most, else-x-most}
 
 pub loop-r-init : goal.loop-r-init
 loop-r-init c = (search rules, search rules, search rules, search rules, refl)
@@ -23,26 +24,26 @@ loop-r-preserved c =
     let args = c.args in
     let m = args.m.now in
     let h : at.r < 10 = omega arith in
-    ⊎_elim
-    (λ w. (
+    elim c.if-x-most.branch [
+      then-x-most w ↦ (
       search rules,
       search rules,
-      omega (arith, w.1),
-      w.2 ∙ mag.ensures ∙ ap (λ (k : ℕ). magnitude_of (cell m k args.i)) (sym w.1),
-      ap (λ (k : ℕ). first_best (greater args.i m) k (list_of (λ s. s) (10 - (at.r + 1)) (at.r + 1))) w.1
-          ∙ pivot_step args.i m at.r at.best at.most mag.result true h at.invariant.3 mag.ensures w.0.taken
+      omega (arith, w.best-is),
+      w.most-is ∙ mag.ensures ∙ ap (λ (k : ℕ). magnitude_of (cell m k args.i)) (sym w.best-is),
+      ap (λ (k : ℕ). first_best (greater args.i m) k (list_of (λ s. s) (10 - (at.r + 1)) (at.r + 1))) w.best-is
+          ∙ pivot_step args.i m at.r at.best at.most mag.result true h at.invariant.3 mag.ensures w.if-x-most.true
           ∙ at.invariant.4,
-    ))
-    (λ w. (
+    )
+      | else-x-most w ↦ (
       search rules,
       search rules,
-      omega (arith, w.1),
-      w.2 ∙ at.invariant.3 ∙ ap (λ (k : ℕ). magnitude_of (cell m k args.i)) (sym w.1),
-      ap (λ (k : ℕ). first_best (greater args.i m) k (list_of (λ s. s) (10 - (at.r + 1)) (at.r + 1))) w.1
-          ∙ pivot_step args.i m at.r at.best at.most mag.result false h at.invariant.3 mag.ensures w.0.left
+      omega (arith, w.best-is),
+      w.most-is ∙ at.invariant.3 ∙ ap (λ (k : ℕ). magnitude_of (cell m k args.i)) (sym w.best-is),
+      ap (λ (k : ℕ). first_best (greater args.i m) k (list_of (λ s. s) (10 - (at.r + 1)) (at.r + 1))) w.best-is
+          ∙ pivot_step args.i m at.r at.best at.most mag.result false h at.invariant.3 mag.ensures w.if-x-most.false
           ∙ at.invariant.4,
-    ))
-    c.if-x-most.branch
+    )
+    ]
 
 pub returns : goal.returns
 returns c =

@@ -1,0 +1,73 @@
+-- The run is all of its second, whose mean goes to its place. Assumes nothing.
+use borrow.Author.Rules.{rules}
+use mathlib.Core.Path.{◌≡◌, sym, ap, ◌∙◌, subst}
+use mathlib.Core.List.{List}
+use Prim.Native.Nat.{◌-◌, ◌≤◌}
+use native.Mathlib.Omega.{arith}
+use lib.IntN.{ℤ, pos, nat_abs}
+use lib.ListN.{get_or, set}
+use mir.Syntax.{w64}
+use mir.Val.{SFits}
+use mir.ValLaws.{to_z-of_z}
+use Rattle.checks.specs.Limits.{farthest_instant}
+use Rattle.samples.specs.declared.sums.Mean.{Mean}
+use Rattle.samples.specs.Means.{Sample, bin, recording, mean_of}
+use Rattle.samples.specs.Sums.{as_mean, StartsSecond}
+use Rattle.samples.specs.Runs.{second_at}
+use Rattle.samples.proofs.Limits.{limit_fits}
+use Rattle.samples.proofs.Starts.{start_at, start_is, second_is}
+use Rattle.samples.proofs.RunsOfSeconds.{run_one, run_is_bin}
+use Rattle.samples.proofs.runs.write_run.Goals as goal
+
+pub second_start-start-requires : goal.second_start-start-requires
+second_start-start-requires c =
+    let t = get_or c.args.instants.now c.args.from (pos 0) in
+    let h = c.requires.recorded.limited c.args.from in
+    subst (λ (z : ℤ). nat_abs z ≤ farthest_instant) (sym (to_z-of_z w64 t (limit_fits t h))) h
+
+pub run_end-end-requires : goal.run_end-end-requires
+run_end-end-requires c =
+    let t = get_or c.args.instants.now c.args.from (pos 0) in
+    let h = c.requires.recorded.limited c.args.from in
+    let r = c.second_start-start.result in record { from_in_bounds = search rules; limited = c.requires.recorded.limited; starts_second = subst StartsSecond (sym (start_is t r (limit_fits t h) h c.second_start-start.ensures)) (start_at t h); start_value = second_is t r (limit_fits t h) h c.second_start-start.ensures }
+
+pub slice_bounds-run_mean-count : goal.slice_bounds-run_mean-count
+slice_bounds-run_mean-count c = omega (arith, c.run_end-end.ensures.later)
+
+-- NO GOAL slice-bounds-run-mean-start
+-- part-run-mean-start : tie.Need-slice-bounds-run-mean-start
+-- part-run-mean-start c = omega (arith, c.run-end.ensures.later)
+
+-- NO GOAL slice-bounds-run-mean-end
+-- part-run-mean-end : tie.Need-slice-bounds-run-mean-end
+-- part-run-mean-end c = c.run-end.ensures.inside
+
+pub slice_bounds-run_mean-count-2 : goal.slice_bounds-run_mean-count-2
+slice_bounds-run_mean-count-2 c = omega (arith, c.run_end-end.ensures.later)
+
+-- NO GOAL slice-bounds-run-mean-start-2
+-- part-run-mean-start-2 : tie.Need-slice-bounds-run-mean-start-2
+-- part-run-mean-start-2 c = omega (arith, c.before.run-end.ensures.later)
+
+-- NO GOAL slice-bounds-run-mean-end-2
+-- part-run-mean-end-2 : tie.Need-slice-bounds-run-mean-end-2
+-- part-run-mean-end-2 c =
+--     let s = c.before.before.before.before.before.before in
+--     omega (arith, c.before.run-end.ensures.inside, s.requires.0.same)
+
+pub run_mean-mean-requires : goal.run_mean-mean-requires
+run_mean-mean-requires c =
+    let s = (c) in
+    let run = c.run_end-end in
+    run_one s.args.instants.now s.args.frequencies.now s.pre.0 s.pre.1.0 s.args.from run.result s.pre.1.1.1 run.ensures
+
+pub returns : goal.returns
+returns c =
+    let s = (c) in
+    let ts = s.args.instants.now in
+    let fs = s.args.frequencies.now in
+    let from = s.args.from in
+    let run = c.run_end-end in
+    let m = c.run_mean-mean.result in
+    let f : SFits w64 m.instant.0 = search rules in
+    let e : m ≡ as_mean (mean_of (bin (second_at ts from) (recording ts fs))) = c.run_mean-mean.ensures ∙ ap (λ (l : List Sample). as_mean (mean_of l)) (run_is_bin ts fs s.pre.0 s.pre.1.0 from run.result s.pre.1.1.1 run.ensures) in record { run = run.ensures; mean_instants_after = ap (set s.args.mean-instants.now s.args.place) (to_z-of_z w64 m.instant.0 f ∙ ap (λ (x : Mean). x.instant.0) e); mean_frequencies_after = ap (λ (x : Mean). set s.args.mean-frequencies.now s.args.place x.frequency.0) e }
