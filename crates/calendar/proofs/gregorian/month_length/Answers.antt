@@ -54,4 +54,6 @@ pub returns-in-4 : goal.returns-in-4
 returns-in-4 c = thirty c.args.leap c.args.month c.in-4.is
 
 pub returns-in_default : goal.returns-in_default
-returns-in_default c = rest c.args.leap c.args.month c.requires.0 c.requires.1 c.in_default.rest.0.1 c.in_default.rest.1
+returns-in_default c =
+    let r = c.in_default.in_default-own.rest in
+    rest c.args.leap c.args.month c.requires.0 c.requires.1 r.0.1 r.1

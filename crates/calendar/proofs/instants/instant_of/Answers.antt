@@ -25,7 +25,7 @@ chosen : (d : Calendar) (l : ℤ) (v w : Bool) → real d ≡ v → beyond (less
 chosen d l v w e f = ap₂ (λ (p q : Bool). cond p (cond q Beyond (At (record { 0 = lessened (since1970 d) l }))) Unreal) (sym e) (sym f)
 
 is_so : (c : Else-not-is_real) → real c.args.c ≡ true
-is_so c = sym c.is_real.ensures ∙ not-false _ c.if-not-is_real.false
+is_so c = sym c.is_real.ensures ∙ c.if-not-is_real.false
 
 pub returns-then-not-is_real : goal.returns-then-not-is_real
 returns-then-not-is_real c =

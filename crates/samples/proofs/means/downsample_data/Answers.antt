@@ -11,7 +11,7 @@ use Rattle.samples.proofs.means.downsample_data.Goals as goal
 
 pub returns-then-refusal-ne0 : goal.returns-then-refusal-ne0
 returns-then-refusal-ne0 c =
-    let a = ((c)).args in
+    let a = (c).args in
     let ts = a.instants.now in
     let fs = a.frequencies.now in
     let is = a.mean-instants.now in

@@ -3,4 +3,4 @@ use borrow.Author.Rules.{rules}
 use Rattle.samples.proofs.means.write_means.Goals as goal
 
 pub write_runs-requires : goal.write_runs-requires
-write_runs-requires c =record { recorded = c.requires.recorded; never_falls = c.never_falls.ensures c.if-never_falls.true; instants_in_bounds = c.requires.instants_in_bounds }
+write_runs-requires c = record { recorded = c.requires.recorded; never_falls = c.never_falls.ensures c.if-never_falls.true; instants_in_bounds = c.requires.instants_in_bounds }

@@ -26,25 +26,6 @@ frequencies_copied c =
     let call = c.copy_frequencies in
     copied c.args.sorted_frequencies.now c.args.frequencies.now call.last.1.1.0 (length c.args.instants.now) c.requires.recorded.same call.ensures
 
--- and after the sort
-sorted : (c : After-sort_by_seconds)
-    → let a = ((c)).args in
-    Sorted a.instants.now a.frequencies.now c.sort_by_seconds.new.instants c.sort_by_seconds.new.frequencies
-sorted c =
-    let s = (c) in
-    let ts = s.args.instants.now in
-    let fs = s.args.frequencies.now in
-    let us = ((c)).copy-instants in
-    let gs = ((c)).copy-frequencies in
-    let call = c.sort_by_seconds in
-    let room = s.pre.1.1 in
-    sorted_copy ts fs s.pre.0 us.last.1.1.0 gs.last.1.1.0 ((let it : let a = c.args in take (length a.instants.now) c.copy_instants.new.?.1.1.0 ≡ a.instants.now = let a = c.args in let call = c.copy_instants in copied a.sorted_instants.now a.instants.now call.last.1.1.0 (length a.instants.now) refl call.ensures in it)) ((let it : let a = c.args in take (length a.instants.now) c.copy_frequencies.new.?.1.1.0 ≡ a.frequencies.now = let call = c.copy_frequencies in copied c.args.sorted_frequencies.now c.args.frequencies.now call.last.1.1.0 (length c.args.instants.now) c.requires.recorded.same call.ensures in it)) call.new.instants call.new.frequencies
-    (omega (arith, s.pre.0.few, room.0, us.kept.1.1.0))
-    (omega (arith, s.pre.0.few, room.1, gs.kept.1.1.0))
-    call.auto.0
-    call.auto.1.0
-    call.ensures.same_bins
-
 pub sort_by_seconds-requires : goal.sort_by_seconds-requires
 sort_by_seconds-requires c =
     let us = c.copy_instants in
@@ -60,21 +41,20 @@ sort_by_seconds-requires c =
     }
 
 pub slice_bounds-write_runs-end-2 : goal.slice_bounds-write_runs-end-2
-slice_bounds-write_runs-end-2 c = sym ((let it : let a = ((c)).args in Sorted a.instants.now a.frequencies.now c.sort_by_seconds.new.instants c.sort_by_seconds.new.frequencies = let s = (c) in let ts = s.args.instants.now in let fs = s.args.frequencies.now in let us = ((c)).copy-instants in let gs = ((c)).copy-frequencies in let call = c.sort_by_seconds in let room = s.pre.1.1 in sorted_copy ts fs s.pre.0 us.last.1.1.0 gs.last.1.1.0 ((let it : let a = c.args in take (length a.instants.now) c.copy_instants.new.?.1.1.0 ≡ a.instants.now = let a = c.args in let call = c.copy_instants in copied a.sorted_instants.now a.instants.now call.last.1.1.0 (length a.instants.now) refl call.ensures in it)) ((let it : let a = c.args in take (length a.instants.now) c.copy_frequencies.new.?.1.1.0 ≡ a.frequencies.now = let call = c.copy_frequencies in copied c.args.sorted_frequencies.now c.args.frequencies.now call.last.1.1.0 (length c.args.instants.now) c.requires.recorded.same call.ensures in it)) call.new.instants call.new.frequencies (omega (arith, s.pre.0.few, room.0, us.kept.1.1.0)) (omega (arith, s.pre.0.few, room.1, gs.kept.1.1.0)) call.auto.0 call.auto.1.0 call.ensures.same_bins in it)).instants-long
+slice_bounds-write_runs-end-2 c = sym ((let it : let a = (c).args in Sorted a.instants.now a.frequencies.now c.sort_by_seconds.new.instants c.sort_by_seconds.new.frequencies = let ts = c.args.instants.now in let fs = c.args.frequencies.now in let us = (c).copy-instants in let gs = (c).copy-frequencies in let call = c.sort_by_seconds in let room = c.requires.instants_in_bounds_2 in sorted_copy ts fs c.requires.recorded us.last.1.1.0 gs.last.1.1.0 ((let it : let a = c.args in take (length a.instants.now) c.copy_instants.new.?.1.1.0 ≡ a.instants.now = let a = c.args in let call = c.copy_instants in copied a.sorted_instants.now a.instants.now call.last.1.1.0 (length a.instants.now) refl call.ensures in it)) ((let it : let a = c.args in take (length a.instants.now) c.copy_frequencies.new.?.1.1.0 ≡ a.frequencies.now = let call = c.copy_frequencies in copied c.args.sorted_frequencies.now c.args.frequencies.now call.last.1.1.0 (length c.args.instants.now) c.requires.recorded.same call.ensures in it)) call.new.instants call.new.frequencies (omega (arith, c.requires.recorded.few, room.0, us.kept.1.1.0)) (omega (arith, c.requires.recorded.few, room.1, gs.kept.1.1.0)) call.auto.0 call.auto.1.0 call.ensures.same_bins in it)).instants-long
 
 pub slice_bounds-write_runs-end-4 : goal.slice_bounds-write_runs-end-4
 slice_bounds-write_runs-end-4 c =
-    sym ((let it : let a = ((c)).args in Sorted a.instants.now a.frequencies.now c.sort_by_seconds.new.instants c.sort_by_seconds.new.frequencies = let s = (c) in let ts = s.args.instants.now in let fs = s.args.frequencies.now in let us = ((c)).copy-instants in let gs = ((c)).copy-frequencies in let call = c.sort_by_seconds in let room = s.pre.1.1 in sorted_copy ts fs s.pre.0 us.last.1.1.0 gs.last.1.1.0 ((let it : let a = c.args in take (length a.instants.now) c.copy_instants.new.?.1.1.0 ≡ a.instants.now = let a = c.args in let call = c.copy_instants in copied a.sorted_instants.now a.instants.now call.last.1.1.0 (length a.instants.now) refl call.ensures in it)) ((let it : let a = c.args in take (length a.instants.now) c.copy_frequencies.new.?.1.1.0 ≡ a.frequencies.now = let call = c.copy_frequencies in copied c.args.sorted_frequencies.now c.args.frequencies.now call.last.1.1.0 (length c.args.instants.now) c.requires.recorded.same call.ensures in it)) call.new.instants call.new.frequencies (omega (arith, s.pre.0.few, room.0, us.kept.1.1.0)) (omega (arith, s.pre.0.few, room.1, gs.kept.1.1.0)) call.auto.0 call.auto.1.0 call.ensures.same_bins in it)).frequencies-long
+    sym ((let it : let a = (c).args in Sorted a.instants.now a.frequencies.now c.sort_by_seconds.new.instants c.sort_by_seconds.new.frequencies = let ts = c.args.instants.now in let fs = c.args.frequencies.now in let us = (c).copy-instants in let gs = (c).copy-frequencies in let call = c.sort_by_seconds in let room = c.requires.instants_in_bounds_2 in sorted_copy ts fs c.requires.recorded us.last.1.1.0 gs.last.1.1.0 ((let it : let a = c.args in take (length a.instants.now) c.copy_instants.new.?.1.1.0 ≡ a.instants.now = let a = c.args in let call = c.copy_instants in copied a.sorted_instants.now a.instants.now call.last.1.1.0 (length a.instants.now) refl call.ensures in it)) ((let it : let a = c.args in take (length a.instants.now) c.copy_frequencies.new.?.1.1.0 ≡ a.frequencies.now = let call = c.copy_frequencies in copied c.args.sorted_frequencies.now c.args.frequencies.now call.last.1.1.0 (length c.args.instants.now) c.requires.recorded.same call.ensures in it)) call.new.instants call.new.frequencies (omega (arith, c.requires.recorded.few, room.0, us.kept.1.1.0)) (omega (arith, c.requires.recorded.few, room.1, gs.kept.1.1.0)) call.auto.0 call.auto.1.0 call.ensures.same_bins in it)).frequencies-long
 
 pub write_runs-requires : goal.write_runs-requires
 write_runs-requires c =
     let s = (c) in
-    let copy = (let it : let a = ((c)).args in Sorted a.instants.now a.frequencies.now c.sort_by_seconds.new.instants c.sort_by_seconds.new.frequencies = let s = (c) in let ts = s.args.instants.now in let fs = s.args.frequencies.now in let us = ((c)).copy-instants in let gs = ((c)).copy-frequencies in let call = c.sort_by_seconds in let room = s.pre.1.1 in sorted_copy ts fs s.pre.0 us.last.1.1.0 gs.last.1.1.0 ((let it : let a = c.args in take (length a.instants.now) c.copy_instants.new.?.1.1.0 ≡ a.instants.now = let a = c.args in let call = c.copy_instants in copied a.sorted_instants.now a.instants.now call.last.1.1.0 (length a.instants.now) refl call.ensures in it)) ((let it : let a = c.args in take (length a.instants.now) c.copy_frequencies.new.?.1.1.0 ≡ a.frequencies.now = let call = c.copy_frequencies in copied c.args.sorted_frequencies.now c.args.frequencies.now call.last.1.1.0 (length c.args.instants.now) c.requires.recorded.same call.ensures in it)) call.new.instants call.new.frequencies (omega (arith, s.pre.0.few, room.0, us.kept.1.1.0)) (omega (arith, s.pre.0.few, room.1, gs.kept.1.1.0)) call.auto.0 call.auto.1.0 call.ensures.same_bins in it) in
+    let copy = (let it : let a = (c).args in Sorted a.instants.now a.frequencies.now c.sort_by_seconds.new.instants c.sort_by_seconds.new.frequencies = let ts = c.args.instants.now in let fs = c.args.frequencies.now in let us = (c).copy-instants in let gs = (c).copy-frequencies in let call = c.sort_by_seconds in let room = c.requires.instants_in_bounds_2 in sorted_copy ts fs c.requires.recorded us.last.1.1.0 gs.last.1.1.0 ((let it : let a = c.args in take (length a.instants.now) c.copy_instants.new.?.1.1.0 ≡ a.instants.now = let a = c.args in let call = c.copy_instants in copied a.sorted_instants.now a.instants.now call.last.1.1.0 (length a.instants.now) refl call.ensures in it)) ((let it : let a = c.args in take (length a.instants.now) c.copy_frequencies.new.?.1.1.0 ≡ a.frequencies.now = let call = c.copy_frequencies in copied c.args.sorted_frequencies.now c.args.frequencies.now call.last.1.1.0 (length c.args.instants.now) c.requires.recorded.same call.ensures in it)) call.new.instants call.new.frequencies (omega (arith, c.requires.recorded.few, room.0, us.kept.1.1.0)) (omega (arith, c.requires.recorded.few, room.1, gs.kept.1.1.0)) call.auto.0 call.auto.1.0 call.ensures.same_bins in it) in
     let room = s.pre.1.0 in record { recorded = copy.recorded; never_falls = c.sort_by_seconds.ensures.never_falls; instants_in_bounds = (omega (arith, copy.instants-long, room.0), omega (arith, copy.instants-long, room.1)) }
 
 pub returns : goal.returns
 returns c =
-    let sort = sort-of c in
-    let s = start-of sort.before in
+    let s = (c) in
     let runs = c.write_runs.ensures in
-    let same = (sorted sort).same in record { value = runs.value ∙ ap length same; mean_instants_after = runs.mean_instants_after ∙ ap (λ (S : List Sample). written (instants S) s.args.mean-instants.now) same; mean_frequencies_after = runs.mean_frequencies_after ∙ ap (λ (S : List Sample). written (frequencies S) s.args.mean-frequencies.now) same }
+    let same = ((let it : let a = (c).args in Sorted a.instants.now a.frequencies.now c.sort_by_seconds.new.instants c.sort_by_seconds.new.frequencies = let ts = c.args.instants.now in let fs = c.args.frequencies.now in let us = (c).copy-instants in let gs = (c).copy-frequencies in let call = c.sort_by_seconds in let room = c.requires.instants_in_bounds_2 in sorted_copy ts fs c.requires.recorded us.last.1.1.0 gs.last.1.1.0 ((let it : let a = c.args in take (length a.instants.now) c.copy_instants.new.?.1.1.0 ≡ a.instants.now = let a = c.args in let call = c.copy_instants in copied a.sorted_instants.now a.instants.now call.last.1.1.0 (length a.instants.now) refl call.ensures in it)) ((let it : let a = c.args in take (length a.instants.now) c.copy_frequencies.new.?.1.1.0 ≡ a.frequencies.now = let call = c.copy_frequencies in copied c.args.sorted_frequencies.now c.args.frequencies.now call.last.1.1.0 (length c.args.instants.now) c.requires.recorded.same call.ensures in it)) call.new.instants call.new.frequencies (omega (arith, c.requires.recorded.few, room.0, us.kept.1.1.0)) (omega (arith, c.requires.recorded.few, room.1, gs.kept.1.1.0)) call.auto.0 call.auto.1.0 call.ensures.same_bins in it)).same in record { value = runs.value ∙ ap length same; mean_instants_after = runs.mean_instants_after ∙ ap (λ (S : List Sample). written (instants S) s.args.mean-instants.now) same; mean_frequencies_after = runs.mean_frequencies_after ∙ ap (λ (S : List Sample). written (frequencies S) s.args.mean-frequencies.now) same }

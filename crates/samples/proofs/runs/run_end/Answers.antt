@@ -59,17 +59,15 @@ pub returns-then-not-in_second : goal.returns-then-not-in_second
 returns-then-not-in_second c =
     let at = c.loop-end in
     let ts = c.args.instants.now in
-    let p = c.requires.?WHOLE in
-    let e = test ts c.args.from at.end c.args.start p.0 c.ranges.start p.1.1 c.in_second.result false c.in_second.ensures (not-true c.in_second.result c.if-not-in_second.true) in
-    record { later = at.invariant.0; inside = at.invariant.1; same = at.invariant.2; ended = λ h q. other ts c.args.from at.end c.args.start p.0 c.ranges.start p.1.1 e q }
+    let e = test ts c.args.from at.end c.args.start c.requires.limited c.ranges.start c.requires.start_value c.in_second.result false c.in_second.ensures (c.if-not-in_second.true) in
+    record { later = at.invariant.0; inside = at.invariant.1; same = at.invariant.2; ended = λ h q. other ts c.args.from at.end c.args.start c.requires.limited c.ranges.start c.requires.start_value e q }
 
 pub loop-end-preserved : goal.loop-end-preserved
 loop-end-preserved c =
     let at = c.loop-end in
     let ts = c.args.instants.now in
-    let p = c.requires.?WHOLE in
-    let e = test ts c.args.from at.end c.args.start p.0 c.ranges.start p.1.1 c.in_second.result true c.in_second.ensures (not-false c.in_second.result c.if-not-in_second.false) in
-    (search rules, search rules, more ts c.args.from at.end c.args.start p.0 c.ranges.start p.1.1 at.invariant.2 e)
+    let e = test ts c.args.from at.end c.args.start c.requires.limited c.ranges.start c.requires.start_value c.in_second.result true c.in_second.ensures (c.if-not-in_second.false) in
+    (search rules, search rules, more ts c.args.from at.end c.args.start c.requires.limited c.ranges.start c.requires.start_value at.invariant.2 e)
 
 pub returns : goal.returns
 returns c =

@@ -57,17 +57,15 @@ slice_bounds-run_mean-count-2 c = omega (arith, c.run_end-end.ensures.later)
 
 pub run_mean-mean-requires : goal.run_mean-mean-requires
 run_mean-mean-requires c =
-    let s = (c) in
     let run = c.run_end-end in
-    run_one s.args.instants.now s.args.frequencies.now s.pre.0 s.pre.1.0 s.args.from run.result s.pre.1.1.1 run.ensures
+    run_one c.args.instants.now c.args.frequencies.now c.requires.recorded c.requires.never_falls c.args.from run.result c.requires.begins run.ensures
 
 pub returns : goal.returns
 returns c =
-    let s = (c) in
-    let ts = s.args.instants.now in
-    let fs = s.args.frequencies.now in
-    let from = s.args.from in
+    let ts = c.args.instants.now in
+    let fs = c.args.frequencies.now in
+    let from = c.args.from in
     let run = c.run_end-end in
     let m = c.run_mean-mean.result in
     let f : SFits w64 m.instant.0 = search rules in
-    let e : m ≡ as_mean (mean_of (bin (second_at ts from) (recording ts fs))) = c.run_mean-mean.ensures ∙ ap (λ (l : List Sample). as_mean (mean_of l)) (run_is_bin ts fs s.pre.0 s.pre.1.0 from run.result s.pre.1.1.1 run.ensures) in record { run = run.ensures; mean_instants_after = ap (set s.args.mean-instants.now s.args.place) (to_z-of_z w64 m.instant.0 f ∙ ap (λ (x : Mean). x.instant.0) e); mean_frequencies_after = ap (λ (x : Mean). set s.args.mean-frequencies.now s.args.place x.frequency.0) e }
+    let e : m ≡ as_mean (mean_of (bin (second_at ts from) (recording ts fs))) = c.run_mean-mean.ensures ∙ ap (λ (l : List Sample). as_mean (mean_of l)) (run_is_bin ts fs c.requires.recorded c.requires.never_falls from run.result c.requires.begins run.ensures) in record { run = run.ensures; mean_instants_after = ap (set c.args.mean_instants.now c.args.place) (to_z-of_z w64 m.instant.0 f ∙ ap (λ (x : Mean). x.instant.0) e); mean_frequencies_after = ap (λ (x : Mean). set c.args.mean_frequencies.now c.args.place x.frequency.0) e }

@@ -26,7 +26,7 @@ use Rattle.samples.proofs.sums.run_sums.Given as goal
 abbrev pub invariant-loop-k : goal.invariant-loop-k
 invariant-loop-k l =
     (l.k ≤ length l.instants)
-    × (to_z w64 l.micros ≡ offset_sum (get_or l.instants 0 (pos 0)) (take l.k (recording l.instants l.frequencies)))
+    × (l.micros ≡ offset_sum (get_or l.instants 0 (pos 0)) (take l.k (recording l.instants l.frequencies)))
     × (sum_from l.hertz (take (length l.frequencies - l.k) (drop l.k l.frequencies)) ≡ sum_from nought l.frequencies)
 
 abbrev pub decreases-loop-k : goal.decreases-loop-k
