@@ -1,0 +1,19 @@
+-- Before each turn the lines passed begin as they must. Assumes nothing.
+use borrow.Author.Rules.{rules}
+use mathlib.Core.Path.{◌≡◌, refl, sym, ◌∙◌}
+use Prim.Native.Nat.{◌≤◌, ◌-◌}
+use native.Mathlib.Omega.{arith}
+use lib.ListN.{drop}
+use Rattle.sp3.specs.Lines.{lines}
+use mathlib.Core.Bool.{true, false}
+use borrow.Author.Tests.{not-true, not-false}
+use Rattle.sp3.proofs.Beginnings.{head_none, head_line, head_all}
+use Rattle.sp3.specs.Header.{beginnings, headed}
+use Rattle.sp3.proofs.header.is_headed.Given as goal
+
+abbrev pub invariant-loop-k : goal.invariant-loop-k
+invariant-loop-k l =
+    (l.k ≤ 22) × (headed (drop l.k beginnings) (lines (drop l.from l.bytes)) ≡ headed beginnings (lines l.bytes))
+
+abbrev pub decreases-loop-k : goal.decreases-loop-k
+decreases-loop-k l = 22 - l.k

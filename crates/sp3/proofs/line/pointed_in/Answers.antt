@@ -1,0 +1,16 @@
+-- Columns that the line does not have, or what is read of them. Assumes nothing.
+use borrow.Author.Rules.{rules}
+use mathlib.Core.Path.{◌∙◌}
+use native.Mathlib.Omega.{arith}
+use Prim.Native.Nat.{◌-◌}
+use Rattle.decimal.specs.Reading.{decimal_of}
+use Rattle.sp3.proofs.Values.{not_here, read_here}
+use Rattle.sp3.proofs.line.pointed_in.Goals as goal
+
+pub returns-then-line-last : goal.returns-then-line-last
+returns-then-line-last c = let a = c.args in not_here a.first a.last (decimal_of a.signed (a.point - a.first)) a.line.now c.if-line-last.true
+
+pub returns : goal.returns
+returns c =
+    let a = c.args in
+    c.decimal_of.ensures ∙ read_here a.first a.last (decimal_of a.signed (a.point - a.first)) a.line.now c.requires.0 (omega (arith, c.requires)) c.if-line-last.false
