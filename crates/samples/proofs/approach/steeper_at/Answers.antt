@@ -1,4 +1,6 @@
 -- The early returns are the definition's conjunction, test by test; the two instants are near 1970, so the gap is the definition's. Assumes nothing.
+use mathlib.Core.Path.{ap}
+use mathlib.Core.Bool.{not}
 use borrow.Author.Rules.{rules}
 use mathlib.Core.Path.{◌≡◌, sym, ap₂, ◌∙◌, subst}
 use Prim.Native.Nat.{ℕ, ◌+◌, ◌-◌}
@@ -26,13 +28,13 @@ pub returns-then-not-gap : goal.returns-then-not-gap
 unfolding of_bits
 returns-then-not-gap c =
     let a = c.args in
-    kept_by_gap a.floor a.instants.now a.frequencies.now a.i a.best c.gap_between-gap.result.0 ((let it : c.gap_between-gap.result.0 ≡ gap_at c.args.instants.now c.args.i = let ts = c.args.instants.now in let i = c.args.i in let near : (k : ℕ) → Near (get_or ts k (pos 0)) = λ k. le_trans (c.requires.3 k) (omega arith) in c.gap_between-gap.ensures ∙ ap₂ gap_of (back_near (get_or ts (i - 1) (pos 0)) (near (i - 1))) (back_near (get_or ts (i + 1) (pos 0)) (near (i + 1))) in it)) c.if-not-gap.true
+    kept_by_gap a.floor a.instants.now a.frequencies.now a.i a.best c.gap_between-gap.result.0 ((let it : c.gap_between-gap.result.0 ≡ gap_at c.args.instants.now c.args.i = let ts = c.args.instants.now in let i = c.args.i in let near : (k : ℕ) → Near (get_or ts k (pos 0)) = λ k. le_trans (c.requires.3 k) (omega arith) in c.gap_between-gap.ensures ∙ ap₂ gap_of (back_near (get_or ts (i - 1) (pos 0)) (near (i - 1))) (back_near (get_or ts (i + 1) (pos 0)) (near (i + 1))) in it)) (ap not c.if-not-gap.true)
 
 pub returns-then-not-slope-best : goal.returns-then-not-slope-best
 unfolding of_bits
 returns-then-not-slope-best c =
     let a = c.args in
-    kept_by_slope a.floor a.instants.now a.frequencies.now a.i a.best c.gap_between-gap.result.0 ((let it : c.gap_between-gap.result.0 ≡ gap_at c.args.instants.now c.args.i = let ts = c.args.instants.now in let i = c.args.i in let near : (k : ℕ) → Near (get_or ts k (pos 0)) = λ k. le_trans (c.requires.3 k) (omega arith) in c.gap_between-gap.ensures ∙ ap₂ gap_of (back_near (get_or ts (i - 1) (pos 0)) (near (i - 1))) (back_near (get_or ts (i + 1) (pos 0)) (near (i + 1))) in it)) c.if-not-slope-best.true
+    kept_by_slope a.floor a.instants.now a.frequencies.now a.i a.best c.gap_between-gap.result.0 ((let it : c.gap_between-gap.result.0 ≡ gap_at c.args.instants.now c.args.i = let ts = c.args.instants.now in let i = c.args.i in let near : (k : ℕ) → Near (get_or ts k (pos 0)) = λ k. le_trans (c.requires.3 k) (omega arith) in c.gap_between-gap.ensures ∙ ap₂ gap_of (back_near (get_or ts (i - 1) (pos 0)) (near (i - 1))) (back_near (get_or ts (i + 1) (pos 0)) (near (i + 1))) in it)) (ap not c.if-not-slope-best.true)
 
 pub returns-then-slope-floor : goal.returns-then-slope-floor
 unfolding of_bits
@@ -44,4 +46,4 @@ pub returns : goal.returns
 unfolding of_bits
 returns c =
     let a = c.args in
-    taken a.floor a.instants.now a.frequencies.now a.i a.best c.gap_between-gap.result.0 ((let it : c.gap_between-gap.result.0 ≡ gap_at c.args.instants.now c.args.i = let ts = c.args.instants.now in let i = c.args.i in let near : (k : ℕ) → Near (get_or ts k (pos 0)) = λ k. le_trans (c.requires.3 k) (omega arith) in c.gap_between-gap.ensures ∙ ap₂ gap_of (back_near (get_or ts (i - 1) (pos 0)) (near (i - 1))) (back_near (get_or ts (i + 1) (pos 0)) (near (i + 1))) in it)) c.if-not-gap.false c.if-not-slope-best.false c.if-slope-floor.false
+    taken a.floor a.instants.now a.frequencies.now a.i a.best c.gap_between-gap.result.0 ((let it : c.gap_between-gap.result.0 ≡ gap_at c.args.instants.now c.args.i = let ts = c.args.instants.now in let i = c.args.i in let near : (k : ℕ) → Near (get_or ts k (pos 0)) = λ k. le_trans (c.requires.3 k) (omega arith) in c.gap_between-gap.ensures ∙ ap₂ gap_of (back_near (get_or ts (i - 1) (pos 0)) (near (i - 1))) (back_near (get_or ts (i + 1) (pos 0)) (near (i + 1))) in it)) (ap not c.if-not-gap.false) (ap not c.if-not-slope-best.false) c.if-slope-floor.false

@@ -11,11 +11,11 @@ use Rattle.samples.proofs.means.downsample_data.Goals as goal
 
 pub returns-then-refusal-ne0 : goal.returns-then-refusal-ne0
 returns-then-refusal-ne0 c =
-    let a = (c).args in
+    let a = c.args in
     let ts = a.instants.now in
     let fs = a.frequencies.now in
-    let is = a.mean-instants.now in
-    let hs = a.mean-frequencies.now in
+    let is = a.mean_instants.now in
+    let hs = a.mean_frequencies.now in
     let k = c.refuse_means-refusal.result in
     let n = downsample_refusal ts fs is hs in
     let e = c.refuse_means-refusal.ensures in
@@ -23,21 +23,20 @@ returns-then-refusal-ne0 c =
 
 pub write_means-requires : goal.write_means-requires
 write_means-requires c =
-    let s = (c) in
-    let ts = s.args.instants.now in
-    let fs = s.args.frequencies.now in
-    let is = s.args.mean-instants.now in
-    let hs = s.args.mean-frequencies.now in
+    let ts = c.args.instants.now in
+    let fs = c.args.frequencies.now in
+    let is = c.args.mean_instants.now in
+    let hs = c.args.mean_frequencies.now in
     let z = sym c.refuse_means-refusal.ensures ∙ c.if-refusal-ne0.false in
     let p = means-samples ts fs is hs z in record { recorded = record { same = p.same; few = p.few; limited = p.near }; instants_in_bounds = means_areas ts fs is hs z }
 
 pub returns : goal.returns
 returns c =
-    let a = ((c)).args in
+    let a = c.args in
     let ts = a.instants.now in
     let fs = a.frequencies.now in
-    let is = a.mean-instants.now in
-    let hs = a.mean-frequencies.now in
+    let is = a.mean_instants.now in
+    let hs = a.mean_frequencies.now in
     let k = c.refuse_means-refusal.result in
     let n = downsample_refusal ts fs is hs in
     let e = c.refuse_means-refusal.ensures in

@@ -34,26 +34,8 @@ run_end-end-requires c =
 pub slice_bounds-run_mean-count : goal.slice_bounds-run_mean-count
 slice_bounds-run_mean-count c = omega (arith, c.run_end-end.ensures.later)
 
--- NO GOAL slice-bounds-run-mean-start
--- part-run-mean-start : tie.Need-slice-bounds-run-mean-start
--- part-run-mean-start c = omega (arith, c.run-end.ensures.later)
-
--- NO GOAL slice-bounds-run-mean-end
--- part-run-mean-end : tie.Need-slice-bounds-run-mean-end
--- part-run-mean-end c = c.run-end.ensures.inside
-
 pub slice_bounds-run_mean-count-2 : goal.slice_bounds-run_mean-count-2
 slice_bounds-run_mean-count-2 c = omega (arith, c.run_end-end.ensures.later)
-
--- NO GOAL slice-bounds-run-mean-start-2
--- part-run-mean-start-2 : tie.Need-slice-bounds-run-mean-start-2
--- part-run-mean-start-2 c = omega (arith, c.before.run-end.ensures.later)
-
--- NO GOAL slice-bounds-run-mean-end-2
--- part-run-mean-end-2 : tie.Need-slice-bounds-run-mean-end-2
--- part-run-mean-end-2 c =
---     let s = c.before.before.before.before.before.before in
---     omega (arith, c.before.run-end.ensures.inside, s.requires.0.same)
 
 pub run_mean-mean-requires : goal.run_mean-mean-requires
 run_mean-mean-requires c =

@@ -54,24 +54,7 @@ loop-from-preserved c =
       (w.mean_instants_after ∙ f.0, w.mean_frequencies_after ∙ f.1),
     )
 
--- NO GOAL same-length
--- same_length : tie.Need-same-length invariant-loop decreases-loop
--- same_length c =
---     let s = c.before.before.before.before in
---     let at = c.before.loop in
---     let p = s.requires.1.1 in
---     (places s.args.instants.now s.args.frequencies.now s.requires.0 s.args.mean-instants.now s.args.mean-frequencies.now p.0 p.1 at.mean-instants at.mean-frequencies at.count at.invariant.3 at.invariant.1).0
-
--- NO GOAL same-length-2
--- same-length-2 : tie.Need-same-length-2 invariant-loop decreases-loop
--- same-length-2 c =
---     let s = c.before.before.before.before in
---     let at = c.before.loop in
---     let p = s.requires.1.1 in
---     (places s.args.instants.now s.args.frequencies.now s.requires.0 s.args.mean-instants.now s.args.mean-frequencies.now p.0 p.1 at.mean-instants at.mean-frequencies at.count at.invariant.3 at.invariant.1).1
-
 pub returns : goal.returns
 returns c =
     let at = c.loop-from in
-    let p = c.requires.instants_in_bounds in
-    filling_all c.args.instants.now c.args.frequencies.now c.requires.recorded c.args.mean_instants.now c.args.mean_frequencies.now p.0 p.1 at.mean_instants at.mean_frequencies at.count at.invariant.3 (at.invariant.2.1 c.loop-from-test.false)   -- TUPLE?
+    let p = c.requires.instants_in_bounds in let whole = filling_all c.args.instants.now c.args.frequencies.now c.requires.recorded c.args.mean_instants.now c.args.mean_frequencies.now p.0 p.1 at.mean_instants at.mean_frequencies at.count at.invariant.3 (at.invariant.2.1 c.loop-from-test.false) in record { value = whole.0; mean_instants_after = whole.1.0; mean_frequencies_after = whole.1.1 }
