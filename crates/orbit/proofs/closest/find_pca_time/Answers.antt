@@ -1,0 +1,46 @@
+-- Refused inputs give their number; else the instant is the search's, and its place that of this instant. Assumes nothing.
+use mathlib.Core.Path.{◌≡◌, sym, ◌∙◌}
+use Prim.Native.Nat.{ℕ}
+use native.Mathlib.Omega.{arith}
+use lib.IntN.{ℤ}
+use lib.Ieee.{of_bits}
+use Rattle.checks.specs.Entries.{first_failing, closest_checks}
+use Rattle.checks.specs.Checked.{Table}
+use Rattle.checks.proofs.Checked.{closest_table, closest_near}
+use Rattle.common.proofs.Outcomes.{outcome-refused, outcome-answered}
+use Rattle.orbit.specs.Window.{even_tolerance}
+use Rattle.orbit.specs.Place.{Located, located}
+use Rattle.orbit.specs.Closest.{closest_instant}
+use borrow.Author.Rules.{rules}
+use Rattle.orbit.proofs.closest.find_pca_time.Goals as goal
+use Rattle.orbit.proofs.closest.find_pca_time.Goals.{Else-refusal-ne0, Start}
+
+abbrev instant-of : Start → ℤ
+instant-of c = let a = c.args in closest_instant even_tolerance a.instants.now a.positions.now a.observer a.instant.0
+
+-- no check failed, so the table is one
+none_failed : (c : Else-refusal-ne0) → (let a = c.args in first_failing (closest_checks a.instants.now a.positions.now a.observer a.instant.0)) ≡ 0
+none_failed c = sym c.refuse_closest-refusal.ensures ∙ c.if-refusal-ne0.false
+
+table_of : (c : Else-refusal-ne0) → let a = c.args in Table a.instants.now a.positions.now
+table_of c = let a = c.args in closest_table a.instants.now a.positions.now a.observer a.instant.0 (none_failed c)
+
+pub returns-then-refusal-ne0 : goal.returns-then-refusal-ne0
+returns-then-refusal-ne0 c =
+    let call = c.refuse_closest-refusal in
+    outcome-refused call.result ((let a = c.args in first_failing (closest_checks a.instants.now a.positions.now a.observer a.instant.0))) ((located c.args.instants.now ((let a = c.args in closest_instant even_tolerance a.instants.now a.positions.now a.observer a.instant.0)) ((let a = c.args in closest_instant even_tolerance a.instants.now a.positions.now a.observer a.instant.0)))) call.ensures c.if-refusal-ne0.true
+
+pub closest_at-found-requires : goal.closest_at-found-requires
+closest_at-found-requires c =
+    let a = c.args in
+    (table_of c, closest_near a.instants.now a.positions.now a.observer a.instant.0 (none_failed c))
+
+pub place_of-requires : goal.place_of-requires
+place_of-requires c = omega (arith, ((let it : let a = c.args in Table a.instants.now a.positions.now = let a = c.args in closest_table a.instants.now a.positions.now a.observer a.instant.0 ((let it : (let a = c.args in first_failing (closest_checks a.instants.now a.positions.now a.observer a.instant.0)) ≡ 0 = sym c.refuse_closest-refusal.ensures ∙ c.if-refusal-ne0.false in it)) in it)).enough)
+
+pub returns : goal.returns
+unfolding of_bits
+returns c =
+    let call = c.refuse_closest-refusal in
+    let at : c.closest_at-found.result.0 ≡ (let a = c.args in closest_instant even_tolerance a.instants.now a.positions.now a.observer a.instant.0) = c.closest_at-found.ensures in
+    rw (c.place_of.ensures, at) (outcome-answered call.result ((let a = c.args in first_failing (closest_checks a.instants.now a.positions.now a.observer a.instant.0))) ((located c.args.instants.now ((let a = c.args in closest_instant even_tolerance a.instants.now a.positions.now a.observer a.instant.0)) ((let a = c.args in closest_instant even_tolerance a.instants.now a.positions.now a.observer a.instant.0)))) call.ensures c.if-refusal-ne0.false)

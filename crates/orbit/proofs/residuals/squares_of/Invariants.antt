@@ -1,0 +1,19 @@
+-- The sum so far and the squares that are left make up the whole sum. Assumes nothing.
+use mathlib.Core.Path.{◌≡◌, sym, ◌∙◌}
+use Prim.Native.Nat.{◌-◌, ◌≤◌}
+use native.Mathlib.Omega.{arith}
+use lib.ListN.{take, drop}
+use lib.Ieee.{of_bits, neg}
+use mathlib.Core.List.{map}
+use Rattle.orbit.specs.Residuals.{squared_deviation}
+use Rattle.common.specs.Numbers.{minus_zero}
+use Rattle.common.proofs.Sums.{mapped-step, mapped_end}
+use Rattle.common.specs.Sums.{sum_from}
+use borrow.Author.Rules.{rules}
+use Rattle.orbit.proofs.residuals.squares_of.Given as goal
+
+abbrev pub invariant-loop-i : goal.invariant-loop-i
+invariant-loop-i l = (l.i ≤ l.count) × (sum_from l.sum (map (squared_deviation l.mean) (take (l.count - l.i) (drop l.i l.values))) ≡ sum_from minus_zero (map (squared_deviation l.mean) (take l.count l.values)))
+
+abbrev pub decreases-loop-i : goal.decreases-loop-i
+decreases-loop-i l = l.count - l.i

@@ -1,0 +1,29 @@
+-- The sum so far and the values that are left make up the whole sum. Assumes nothing.
+use mathlib.Core.Path.{◌≡◌, sym, ◌∙◌}
+use Prim.Native.Nat.{◌-◌, ◌≤◌}
+use native.Mathlib.Omega.{arith}
+use lib.ListN.{take, drop}
+use lib.Ieee.{of_bits, neg}
+use Rattle.common.specs.Numbers.{minus_zero}
+use Rattle.common.proofs.Sums.{sum_step, sum_end}
+use Rattle.common.specs.Sums.{sum_from}
+use borrow.Author.Rules.{rules}
+use Rattle.orbit.proofs.residuals.sum_of.Goals as goal
+
+pub loop-i-init : goal.loop-i-init
+unfolding of_bits neg
+loop-i-init c =
+    let n = c.args.count in
+    let e : n - 0 ≡ n = omega arith in
+    (search rules, rw e)
+
+pub loop-i-preserved : goal.loop-i-preserved
+loop-i-preserved c =
+    let at = c.loop-i in
+    (search rules, sum_step at.sum c.args.values.now at.i c.args.count (omega arith) c.requires ∙ at.invariant.1)
+
+pub returns : goal.returns
+returns c =
+    let at = c.loop-i in
+    let a = c.args in
+    sym (sum_end at.sum a.values.now at.i a.count (omega arith)) ∙ at.invariant.1

@@ -1,0 +1,19 @@
+-- Below k the matrix holds a row for each time, by what the callees ensure. Assumes nothing.
+use mathlib.Core.Path.{◌≡◌, ap, ◌∙◌}
+use mathlib.Core.List.{[]}
+use Prim.Native.Nat.{ℕ, ◌-◌, ◌≤◌, ◌<◌}
+use native.Mathlib.Omega.{arith}
+use lib.ListN.{length, get_or, length-set}
+use lib.Ieee.{nan}
+use borrow.Author.Count.{below_none}
+use Rattle.common.proofs.Filled.{filled, filled_more}
+use Rattle.chebyshev.specs.Recurrence.{rounded, polynomials}
+use Rattle.orbit.specs.Window.{tau_of}
+use borrow.Author.Rules.{rules}
+use Rattle.orbit.proofs.window.nodes_of.Given as goal
+
+abbrev pub invariant-loop-k : goal.invariant-loop-k
+invariant-loop-k l = (l.k ≤ 10) × (length l.rows ≡ 10) × ((n : ℕ) → n < l.k → get_or l.rows n [] ≡ polynomials rounded (tau_of (get_or l.t 0 nan) (get_or l.t 9 nan) (get_or l.t n nan)))
+
+abbrev pub decreases-loop-k : goal.decreases-loop-k
+decreases-loop-k l = 10 - l.k
