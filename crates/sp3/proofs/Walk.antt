@@ -38,9 +38,14 @@ module _ (sys : TimeSystem) (sat bs : List ℕ) (from : ℕ) where
   pub said_eof : (to : ℕ) → from < length bs → to ≡ from + ending (drop from bs) → begins (text "EOF") (part from to bs) ≡ true → said_from sys sat bs from ≡ []
   said_eof to h e f = by_eof to true h e f
 
-  pub said_more : (to : ℕ) → from < length bs → to ≡ from + ending (drop from bs) → begins (text "EOF") (part from to bs) ≡ false
+  said_more : (to : ℕ) → from < length bs → to ≡ from + ending (drop from bs) → begins (text "EOF") (part from to bs) ≡ false
       → said_from sys sat bs from ≡ line_of sys sat (part from to bs) ∷ said_from sys sat bs (to + 1)
   said_more to h e f = by_eof to false h e f
+
+  -- the line that was looked at stands first of those that are left
+  pub said_next : (to : ℕ) (b : Bool) (l : Line) → from < length bs → to ≡ from + ending (drop from bs) → b ≡ begins (text "EOF") (part from to bs) → b ≡ false
+      → l ≡ line_of sys sat (part from to bs) → said_from sys sat bs from ≡ l ∷ said_from sys sat bs (to + 1)
+  said_next to b l h e f g k = said_more to h e (sym f ∙ g) ∙ ap (λ (m : Line). m ∷ said_from sys sat bs (to + 1)) (sym k)
 
 -- ---- counting: how many are kept does not depend on the instants
 one-count : (l : Line) (t u : ℤ) → length (kept_of l t) ≡ length (kept_of l u)

@@ -1,14 +1,8 @@
 -- Before each turn the lines passed begin as they must. Assumes nothing.
-use borrow.Author.Rules.{rules}
-use mathlib.Core.Path.{◌≡◌, refl, sym, ◌∙◌}
-use Prim.Native.Nat.{◌≤◌, ◌-◌}
+use mathlib.Core.Path.{refl, sym, ◌∙◌}
 use native.Mathlib.Omega.{arith}
-use lib.ListN.{drop}
-use Rattle.sp3.specs.Lines.{lines}
 use mathlib.Core.Bool.{true, false}
-use borrow.Author.Tests.{not-true, not-false}
 use Rattle.sp3.proofs.Beginnings.{head_none, head_line, head_all}
-use Rattle.sp3.specs.Header.{beginnings, headed}
 use Rattle.sp3.proofs.header.is_headed.Goals as goal
 
 pub loop-k-init : goal.loop-k-init

@@ -1,13 +1,8 @@
 -- Before each turn the lines passed begin as they must. Assumes nothing.
-use borrow.Author.Rules.{rules}
-use mathlib.Core.Path.{◌≡◌, refl, sym, ◌∙◌}
+use mathlib.Core.Path.{◌≡◌}
 use Prim.Native.Nat.{◌≤◌, ◌-◌}
-use native.Mathlib.Omega.{arith}
 use lib.ListN.{drop}
 use Rattle.sp3.specs.Lines.{lines}
-use mathlib.Core.Bool.{true, false}
-use borrow.Author.Tests.{not-true, not-false}
-use Rattle.sp3.proofs.Beginnings.{head_none, head_line, head_all}
 use Rattle.sp3.specs.Header.{beginnings, headed}
 use Rattle.sp3.proofs.header.is_headed.Given as goal
 

@@ -1,6 +1,5 @@
 -- A line without the columns has no time system; otherwise the three bytes are held against UTC and then GPS, and what is neither is another.
 -- Assumes nothing.
-use borrow.Author.Rules.{rules}
 use mathlib.Core.Path.{refl, sym, ap, ◌∙◌}
 use mathlib.Core.Bool.{true, false}
 use native.Mathlib.Omega.{arith}

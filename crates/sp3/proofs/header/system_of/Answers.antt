@@ -1,5 +1,4 @@
 -- Line 13 is behind the first twelve. Assumes nothing.
-use borrow.Author.Rules.{rules}
 use mathlib.Core.Path.{sym, ap, ◌∙◌}
 use native.Mathlib.Omega.{arith}
 use Rattle.sp3.specs.Header.{system_in}

@@ -1,5 +1,4 @@
 -- An instant is an epoch; no real date, or one beyond check 4, is not by the description. Assumes nothing.
-use borrow.Author.Rules.{rules}
 use mathlib.Core.Path.{sym, ap}
 use Rattle.sp3.specs.Columns.{epoch_at}
 use Rattle.sp3.proofs.line.epoch_at.Goals as goal

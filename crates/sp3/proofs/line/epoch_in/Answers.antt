@@ -1,5 +1,4 @@
 -- By the first field that is no number; where all are, each is small enough for its place in a calendar. Assumes nothing.
-use borrow.Author.Rules.{rules}
 use mathlib.Core.Path.{◌≡◌, refl, sym, ap, ◌∙◌}
 use mathlib.Core.Bool.{false}
 use mathlib.Core.List.{List}

@@ -1,5 +1,4 @@
 -- Under UTC and GPS the calendar works the instant out, less the leap seconds; under any other time system only the date is asked. Assumes nothing.
-use borrow.Author.Rules.{rules}
 use mathlib.Core.Path.{sym, ap, ◌∙◌}
 use Rattle.sp3.specs.declared.header.TimeSystem.{TimeSystem}
 use Rattle.sp3.specs.Columns.{epoch_at, epoch_under}

@@ -1,5 +1,4 @@
 -- A real date and time is an epoch at 0, any other is not by the description: the code asks the calendar, and answers by it. Assumes nothing.
-use borrow.Author.Rules.{rules}
 use mathlib.Core.Path.{sym, ap, ◌∙◌}
 use mathlib.Core.Bool.{Bool, cond}
 use lib.IntN.{pos}

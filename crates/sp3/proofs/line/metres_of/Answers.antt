@@ -1,5 +1,4 @@
 -- A zero is +0; a number of 13 digits is a double, and its division by 1000 is rounded once. Assumes nothing.
-use borrow.Author.Rules.{rules}
 use mathlib.Core.Path.{◌≡◌, sym, ap, ◌∙◌}
 use mathlib.Core.Bool.{Bool, true, false}
 use native.Mathlib.Omega.{arith}

@@ -1,5 +1,4 @@
 -- By the first coordinate that is no number; where all are, each has 13 digits at most. Assumes nothing.
-use borrow.Author.Rules.{rules}
 use mathlib.Core.Path.{◌≡◌, refl, sym, ap, ◌∙◌}
 use mathlib.Core.List.{List}
 use Prim.Native.Nat.{ℕ}
@@ -35,12 +34,11 @@ returns-in_default-pointed_in-2 c =
     sym (by_fields (((c.args.line.now))) ((let it : x_in ((c.args.line.now)) ≡ Holds c.in-Holds.x = sym c.pointed_in.ensures ∙ c.in-Holds.is in it)) ((let it : y_in (((c.args.line.now))) ≡ Holds c.in-Holds-pointed_in.y = sym c.pointed_in-2.ensures ∙ c.in-Holds-pointed_in.is in it)) (sym c.pointed_in-3.ensures ∙ c.in_default-pointed_in-2.is))
 
 pub position_of-requires : goal.position_of-requires
-position_of-requires c =
-    (
-      coordinate_small 5 12 18 ((c.args.line.now)) c.in-Holds.x (omega arith) (omega arith) refl ((let it : x_in ((c.args.line.now)) ≡ Holds c.in-Holds.x = sym c.pointed_in.ensures ∙ c.in-Holds.is in it)),
-      coordinate_small 19 26 32 (((c.args.line.now))) c.in-Holds-pointed_in.y (omega arith) (omega arith) refl ((let it : y_in (((c.args.line.now))) ≡ Holds c.in-Holds-pointed_in.y = sym c.pointed_in-2.ensures ∙ c.in-Holds-pointed_in.is in it)),
-      coordinate_small 33 40 46 ((((c.args.line.now)))) c.in-Holds-pointed_in-2.z (omega arith) (omega arith) refl ((let it : z_in ((((c.args.line.now)))) ≡ Holds c.in-Holds-pointed_in-2.z = sym c.pointed_in-3.ensures ∙ c.in-Holds-pointed_in-2.is in it)),
-    )
+position_of-requires c = (
+  coordinate_small 5 12 18 ((c.args.line.now)) c.in-Holds.x (omega arith) (omega arith) refl ((let it : x_in ((c.args.line.now)) ≡ Holds c.in-Holds.x = sym c.pointed_in.ensures ∙ c.in-Holds.is in it)),
+  coordinate_small 19 26 32 (((c.args.line.now))) c.in-Holds-pointed_in.y (omega arith) (omega arith) refl ((let it : y_in (((c.args.line.now))) ≡ Holds c.in-Holds-pointed_in.y = sym c.pointed_in-2.ensures ∙ c.in-Holds-pointed_in.is in it)),
+  coordinate_small 33 40 46 ((((c.args.line.now)))) c.in-Holds-pointed_in-2.z (omega arith) (omega arith) refl ((let it : z_in ((((c.args.line.now)))) ≡ Holds c.in-Holds-pointed_in-2.z = sym c.pointed_in-3.ensures ∙ c.in-Holds-pointed_in-2.is in it)),
+)
 
 pub returns : goal.returns
 returns c =

@@ -1,12 +1,10 @@
 -- The place behind the first 22 lines leads to the lines that the definition drops them from, so the look and the walk see what the definition sees.
 -- A refusal is the first in order and leaves both areas; without one the look found room, and the walk writes the records that it counted.
 -- Assumes nothing.
-use borrow.Author.Rules.{rules}
 use mathlib.Core.Path.{◌≡◌, sym, ap, ◌∙◌}
 use mathlib.Core.List.{List}
 use Prim.Native.Nat.{ℕ}
 use native.Mathlib.Omega.{arith}
-use borrow.Author.Tests.{not-true, not-false}
 use lib.ListN.{length}
 use Rattle.sp3.specs.declared.records.Looked.{Looked}
 use Rattle.sp3.specs.Records.{Kept, instants_of, positions_of}
@@ -65,5 +63,9 @@ returns c =
     let S = said_from c.system_of-system.result a.satellite bs c.after_lines-start.result in
     let p = passed c.system_of-system.result S is ps (sym ((let it : (let a = c.args in c.refuse-refusal.result ≡ refusal_of c.system_of-system.result (looked_at (said_from c.system_of-system.result a.satellite a.bytes.now c.after_lines-start.result)) a.instants.now a.positions.now) = let a = c.args in c.refuse-refusal.ensures ∙ ap (λ (f : Looked). refusal_of c.system_of-system.result f a.instants.now a.positions.now) c.look_over-looked.ensures in it)) ∙ c.if-refusal-ne0.false) in
     let z = sym c.if-refusal-ne0.false ∙ (let it : (let a = c.args in c.refuse-refusal.result ≡ sp3_refusal a.bytes.now a.satellite a.leap_seconds a.instants.now a.positions.now) = let a = c.args in let bs = a.bytes.now in let is = a.instants.now in let ps = a.positions.now in let es = c.system_of-system.ensures in let el = c.after_lines-start.ensures in (let it : (let a = c.args in c.refuse-refusal.result ≡ refusal_of c.system_of-system.result (looked_at (said_from c.system_of-system.result a.satellite a.bytes.now c.after_lines-start.result)) a.instants.now a.positions.now) = let a = c.args in c.refuse-refusal.ensures ∙ ap (λ (f : Looked). refusal_of c.system_of-system.result f a.instants.now a.positions.now) c.look_over-looked.ensures in it) ∙ refusal-same bs a.satellite a.leap_seconds c.after_lines-start.result c.system_of-system.result es el is ps (sym c.is_headed.ensures ∙ c.if-not-is_headed.false) in it) in
-    let q = records_same bs a.satellite a.leap_seconds c.after_lines-start.result c.system_of-system.result es el in record { result_value = ap (outcome 0) (c.count_of.ensures ∙ ap count_of c.look_over-looked.ensures ∙ p.2 ∙ ap length q)
-          ∙ ap (λ (v : ℕ). outcome v (length K)) z; instants_after = c.write_records.ensures.instants_after ∙ ap (λ (J : List Kept). written (instants_of J) is) q ∙ ap (λ (v : ℕ). area v (instants_of K) is) z; positions_after = c.write_records.ensures.positions_after ∙ ap (λ (J : List Kept). written (positions_of J) ps) q ∙ ap (λ (v : ℕ). area v (positions_of K) ps) z }
+    let q = records_same bs a.satellite a.leap_seconds c.after_lines-start.result c.system_of-system.result es el in record {
+      result_value = ap (outcome 0) (c.count_of.ensures ∙ ap count_of c.look_over-looked.ensures ∙ p.2 ∙ ap length q)
+          ∙ ap (λ (v : ℕ). outcome v (length K)) z;
+      instants_after = c.write_records.ensures.instants_after ∙ ap (λ (J : List Kept). written (instants_of J) is) q ∙ ap (λ (v : ℕ). area v (instants_of K) is) z;
+      positions_after = c.write_records.ensures.positions_after ∙ ap (λ (J : List Kept). written (positions_of J) ps) q ∙ ap (λ (v : ℕ). area v (positions_of K) ps) z;
+    }

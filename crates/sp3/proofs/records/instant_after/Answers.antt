@@ -1,5 +1,4 @@
 -- Only an epoch line has an instant of its own; behind any other line the one before it goes on. Assumes nothing.
-use borrow.Author.Rules.{rules}
 use mathlib.Core.Path.{sym, ap}
 use Rattle.sp3.specs.declared.line.Line.{Line}
 use Rattle.sp3.specs.Records.{instant_after}

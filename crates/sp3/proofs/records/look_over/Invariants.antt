@@ -1,20 +1,13 @@
 -- Before each turn the lines passed are by the description, and those of them that are kept are counted. Assumes nothing.
-use borrow.Author.Rules.{rules}
-use mathlib.Core.Path.{◌≡◌, sym, ap, ◌∙◌}
-use Prim.Native.Nat.{◌+◌, ◌≤◌, ◌-◌}
-use native.Mathlib.Omega.{arith}
-use mathlib.Core.List.{◌∷◌}
+use Prim.Native.Nat.{◌≤◌, ◌-◌}
 use lib.ListN.{length}
-use Rattle.sp3.specs.declared.line.Line.{Line}
 use Rattle.sp3.specs.Walks.{said_from}
-use Rattle.sp3.proofs.Walk.{said_none, said_eof, said_more, Looking, look_none, look_end, look_wrong, look_more}
+use Rattle.sp3.proofs.Walk.{Looking}
 use Rattle.sp3.proofs.records.look_over.Given as goal
 
--- ARITY 10 11 ['bytes', 'start', 'system', 'satellite', 'initial.from', 'initial.started', 'initial.count', 'from', 'started', 'count']
-abbrev invariant-loop : tie.invariant-loop
-invariant-loop bytes start system satellite from₀ started₀ count₀ t11 from started count =
-    (count ≤ from) × Looking (said_from system satellite bytes start) (said_from system satellite bytes from) started count
+abbrev pub invariant-loop-from : goal.invariant-loop-from
+invariant-loop-from l =
+    (l.count ≤ l.from) × Looking (said_from l.system l.satellite l.bytes l.start) (said_from l.system l.satellite l.bytes l.from) l.started l.count
 
--- ARITY 10 11 ['bytes', 'start', 'system', 'satellite', 'initial.from', 'initial.started', 'initial.count', 'from', 'started', 'count']
-abbrev decreases-loop : tie.decreases-loop
-decreases-loop bytes start system satellite from₀ started₀ count₀ t11 from started count = length bytes - from
+abbrev pub decreases-loop-from : goal.decreases-loop-from
+decreases-loop-from l = length l.bytes - l.from

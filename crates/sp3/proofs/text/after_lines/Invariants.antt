@@ -1,11 +1,8 @@
 -- Before each turn the place is behind the first k lines. Assumes nothing.
-use borrow.Author.Rules.{rules}
-use mathlib.Core.Path.{◌≡◌, refl, ap, ◌∙◌}
-use Prim.Native.Nat.{ℕ, ◌≤◌, ◌-◌}
-use native.Mathlib.Omega.{arith}
+use mathlib.Core.Path.{◌≡◌}
+use Prim.Native.Nat.{◌≤◌, ◌-◌}
 use lib.ListN.{drop}
 use Rattle.sp3.specs.Lines.{lines}
-use Rattle.sp3.proofs.Cursor.{lines_more, no_more}
 use Rattle.sp3.proofs.text.after_lines.Given as goal
 
 abbrev pub invariant-loop-k : goal.invariant-loop-k

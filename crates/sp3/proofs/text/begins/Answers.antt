@@ -1,10 +1,6 @@
 -- Before each turn the bytes passed are equal. Assumes nothing.
-use borrow.Author.Rules.{rules}
-use mathlib.Core.Path.{◌≡◌, refl, sym, ◌∙◌}
-use Prim.Native.Nat.{◌≤◌, ◌-◌}
+use mathlib.Core.Path.{refl, sym, ◌∙◌}
 use native.Mathlib.Omega.{arith}
-use lib.ListN.{length, drop}
-use Rattle.sp3.specs.Lines.{begins}
 use Rattle.sp3.proofs.Cursor.{begins_short, begins-same, begins-other, begins_all}
 use Rattle.sp3.proofs.text.begins.Goals as goal
 

@@ -1,11 +1,8 @@
 -- Before each turn the bytes passed are equal. Assumes nothing.
-use borrow.Author.Rules.{rules}
-use mathlib.Core.Path.{◌≡◌, refl, sym, ◌∙◌}
+use mathlib.Core.Path.{◌≡◌}
 use Prim.Native.Nat.{◌≤◌, ◌-◌}
-use native.Mathlib.Omega.{arith}
 use lib.ListN.{length, drop}
 use Rattle.sp3.specs.Lines.{begins}
-use Rattle.sp3.proofs.Cursor.{begins_short, begins-same, begins-other, begins_all}
 use Rattle.sp3.proofs.text.begins.Given as goal
 
 abbrev pub invariant-loop-i : goal.invariant-loop-i

@@ -1,10 +1,6 @@
 -- Before each turn no line feed was passed. Assumes nothing.
-use borrow.Author.Rules.{rules}
-use mathlib.Core.Path.{◌≡◌, refl}
-use Prim.Native.Nat.{◌+◌, ◌≤◌, ◌-◌}
+use mathlib.Core.Path.{refl}
 use native.Mathlib.Omega.{arith}
-use lib.ListN.{length, drop}
-use Rattle.sp3.specs.Walks.{ending}
 use Rattle.sp3.proofs.Cursor.{at_feed, no_feed, at_end}
 use Rattle.sp3.proofs.text.line_end.Goals as goal
 

@@ -1,11 +1,8 @@
 -- Before each turn no line feed was passed. Assumes nothing.
-use borrow.Author.Rules.{rules}
-use mathlib.Core.Path.{◌≡◌, refl}
+use mathlib.Core.Path.{◌≡◌}
 use Prim.Native.Nat.{◌+◌, ◌≤◌, ◌-◌}
-use native.Mathlib.Omega.{arith}
 use lib.ListN.{length, drop}
 use Rattle.sp3.specs.Walks.{ending}
-use Rattle.sp3.proofs.Cursor.{at_feed, no_feed, at_end}
 use Rattle.sp3.proofs.text.line_end.Given as goal
 
 abbrev pub invariant-loop-i : goal.invariant-loop-i
