@@ -15,6 +15,8 @@ use Rattle.checks.specs.Checked.{Table, Samples}
 use Rattle.common.proofs.Outcomes.{unless_refused_lem, unless_none, area-refused}
 use Rattle.samples.specs.Means.{Sample, recording, means, instants, frequencies, downsample_refusal, downsampled_in}
 use Rattle.samples.proofs.Seconds.{few-means}
+use Rattle.samples.specs.declared.means.Downsampled.{Downsampled}
+use Rattle.samples.specs.declared.means.Downsampled.TheVariants.{Count}
 use Rattle.samples.proofs.Recordings.{record_length}
 use Rattle.orbit.specs.Window.{even_tolerance}
 use Rattle.orbit.specs.Fit.{fit_of}
@@ -95,48 +97,82 @@ returns-then-refusal-ne0 c =
       mean_frequencies_after = area-refused call.result n (frequencies M) a.mean_frequencies.now call.ensures c.if-refusal-ne0.true;
     }
 
--- there is room for as many as are told
-fitting : (n : ℕ) (M : List Sample) (ts : List ℤ) (k m : ℕ) → n ≤ length ts → length ts ≤ k → m ≡ k → n ≤ m
-fitting n M ts k m h l e = le_trans h (le_trans l (le_of_eq (sym e)))
+module _ (times : List ℤ) (positions : List Float) (ts : List ℤ) (fs : List Float) (observer : Observer) (f0 : Hertz) (is : List ℤ) (hs : List Float)
+  (none : refusal times positions ts fs observer f0 is hs ≡ 0) where
+  -- the count that is told is that of the means
+  told_is : (n : ℕ) (r : Downsampled) → r ≡ Count n → downsampled_in r ≡ outcome (downsample_refusal ts fs is hs) (length (means (recording ts fs))) → n ≡ length (means (recording ts fs))
+  told_is n r e f = same_count n (length (means (recording ts fs))) (sym (ap downsampled_in e) ∙ count_is times positions ts fs observer f0 is hs none (downsampled_in r) f)
+
+  -- there is room for them
+  in_instants : (n : ℕ) (l : List ℤ) → n ≡ length (means (recording ts fs)) → length l ≡ length is → n ≤ length l
+  in_instants n l e s = le_trans (few times positions ts fs observer f0 is hs none n e) (le_trans (room times positions ts fs observer f0 is hs none).0 (le_of_eq (sym s)))
+
+  in_frequencies : (n : ℕ) (l : List Float) → n ≡ length (means (recording ts fs)) → length l ≡ length hs → n ≤ length l
+  in_frequencies n l e s = le_trans (few times positions ts fs observer f0 is hs none n e) (le_trans (room times positions ts fs observer f0 is hs none).1 (le_of_eq (sym s)))
 
 pub slice_bounds-fit_means-end : goal.slice_bounds-fit_means-end
 slice_bounds-fit_means-end c =
     let a = c.args in
-    let z = sym c.refuse_pass-refusal.ensures ∙ c.if-refusal-ne0.false in
     let d = c.downsample_data-means in
-    let M = means (recording a.samples.now a.frequencies.now) in
-    let told = same_count c.in-Count.n (length M) (sym (ap downsampled_in c.in-Count.is) ∙ count_is a.instants.now a.positions.now a.samples.now a.frequencies.now a.observer a.f0 a.mean_instants.now a.mean_frequencies.now z (downsampled_in d.result) d.ensures.result_value) in
-    fitting c.in-Count.n M a.samples.now (length a.mean_instants.now) (length d.new.mean_instants)
-    (few a.instants.now a.positions.now a.samples.now a.frequencies.now a.observer a.f0 a.mean_instants.now a.mean_frequencies.now z c.in-Count.n told)
-    (room a.instants.now a.positions.now a.samples.now a.frequencies.now a.observer a.f0 a.mean_instants.now a.mean_frequencies.now z).0
-    d.auto.mean_instants
+    let z : refusal a.instants.now a.positions.now a.samples.now a.frequencies.now a.observer a.f0 a.mean_instants.now a.mean_frequencies.now ≡ 0 = sym c.refuse_pass-refusal.ensures ∙ c.if-refusal-ne0.false in
+    let told = told_is a.instants.now a.positions.now a.samples.now a.frequencies.now a.observer a.f0 a.mean_instants.now a.mean_frequencies.now z c.in-Count.n d.result c.in-Count.is d.ensures.result_value in
+    in_instants a.instants.now a.positions.now a.samples.now a.frequencies.now a.observer a.f0 a.mean_instants.now a.mean_frequencies.now z c.in-Count.n d.new.mean_instants told d.auto.mean_instants
 
 pub slice_bounds-fit_means-end-in-Count : goal.slice_bounds-fit_means-end-in-Count
-slice_bounds-fit_means-end-in-Count c = ?
+slice_bounds-fit_means-end-in-Count c =
+    let a = c.args in
+    let d = c.downsample_data-means in
+    let z : refusal a.instants.now a.positions.now a.samples.now a.frequencies.now a.observer a.f0 a.mean_instants.now a.mean_frequencies.now ≡ 0 = sym c.refuse_pass-refusal.ensures ∙ c.if-refusal-ne0.false in
+    let told = told_is a.instants.now a.positions.now a.samples.now a.frequencies.now a.observer a.f0 a.mean_instants.now a.mean_frequencies.now z c.in-Count.n d.result c.in-Count.is d.ensures.result_value in
+    sym (length_front d.new.mean_instants c.in-Count.n (in_instants a.instants.now a.positions.now a.samples.now a.frequencies.now a.observer a.f0 a.mean_instants.now a.mean_frequencies.now z c.in-Count.n d.new.mean_instants told d.auto.mean_instants))
 
 pub slice_bounds-fit_means-end-in-Count-2 : goal.slice_bounds-fit_means-end-in-Count-2
-slice_bounds-fit_means-end-in-Count-2 c = ?
+slice_bounds-fit_means-end-in-Count-2 c =
+    let a = c.args in
+    let d = c.downsample_data-means in
+    let z : refusal a.instants.now a.positions.now a.samples.now a.frequencies.now a.observer a.f0 a.mean_instants.now a.mean_frequencies.now ≡ 0 = sym c.refuse_pass-refusal.ensures ∙ c.if-refusal-ne0.false in
+    let told = told_is a.instants.now a.positions.now a.samples.now a.frequencies.now a.observer a.f0 a.mean_instants.now a.mean_frequencies.now z c.in-Count.n d.result c.in-Count.is d.ensures.result_value in
+    in_frequencies a.instants.now a.positions.now a.samples.now a.frequencies.now a.observer a.f0 a.mean_instants.now a.mean_frequencies.now z c.in-Count.n d.new.mean_frequencies told d.auto.mean_frequencies
 
 pub slice_bounds-fit_means-end-in-Count-3 : goal.slice_bounds-fit_means-end-in-Count-3
-slice_bounds-fit_means-end-in-Count-3 c = ?
+slice_bounds-fit_means-end-in-Count-3 c =
+    let a = c.args in
+    let d = c.downsample_data-means in
+    let z : refusal a.instants.now a.positions.now a.samples.now a.frequencies.now a.observer a.f0 a.mean_instants.now a.mean_frequencies.now ≡ 0 = sym c.refuse_pass-refusal.ensures ∙ c.if-refusal-ne0.false in
+    let told = told_is a.instants.now a.positions.now a.samples.now a.frequencies.now a.observer a.f0 a.mean_instants.now a.mean_frequencies.now z c.in-Count.n d.result c.in-Count.is d.ensures.result_value in
+    sym (length_front d.new.mean_frequencies c.in-Count.n (in_frequencies a.instants.now a.positions.now a.samples.now a.frequencies.now a.observer a.f0 a.mean_instants.now a.mean_frequencies.now z c.in-Count.n d.new.mean_frequencies told d.auto.mean_frequencies))
 
 pub fit_means-requires : goal.fit_means-requires
 fit_means-requires c =
     let a = c.args in
-    let z = sym c.refuse_pass-refusal.ensures ∙ c.if-refusal-ne0.false in
     let d = c.downsample_data-means in
-    let M = means (recording a.samples.now a.frequencies.now) in
-    let told = same_count c.in-Count.n (length M) (sym (ap downsampled_in c.in-Count.is) ∙ count_is a.instants.now a.positions.now a.samples.now a.frequencies.now a.observer a.f0 a.mean_instants.now a.mean_frequencies.now z (downsampled_in d.result) d.ensures.result_value) in
-    ?
+    let z : refusal a.instants.now a.positions.now a.samples.now a.frequencies.now a.observer a.f0 a.mean_instants.now a.mean_frequencies.now ≡ 0 = sym c.refuse_pass-refusal.ensures ∙ c.if-refusal-ne0.false in
+    let told = told_is a.instants.now a.positions.now a.samples.now a.frequencies.now a.observer a.f0 a.mean_instants.now a.mean_frequencies.now z c.in-Count.n d.result c.in-Count.is d.ensures.result_value in
+    (
+      pass-table a.instants.now a.positions.now a.samples.now a.frequencies.now a.observer a.f0 a.mean_instants.now a.mean_frequencies.now z,
+      front_sampled a.instants.now a.positions.now a.samples.now a.frequencies.now a.observer a.f0 a.mean_instants.now a.mean_frequencies.now z d.new.mean_instants d.new.mean_frequencies c.in-Count.n told d.ensures.mean_instants_after d.ensures.mean_frequencies_after,
+    )
 
 pub returns-in-Count : goal.returns-in-Count
 unfolding of_bits
-returns-in-Count c = ?
+returns-in-Count c =
+    let a = c.args in
+    let d = c.downsample_data-means in
+    let z : refusal a.instants.now a.positions.now a.samples.now a.frequencies.now a.observer a.f0 a.mean_instants.now a.mean_frequencies.now ≡ 0 = sym c.refuse_pass-refusal.ensures ∙ c.if-refusal-ne0.false in
+    let told = told_is a.instants.now a.positions.now a.samples.now a.frequencies.now a.observer a.f0 a.mean_instants.now a.mean_frequencies.now z c.in-Count.n d.result c.in-Count.is d.ensures.result_value in
+    let i = given a.instants.now a.positions.now a.samples.now a.frequencies.now a.observer a.f0 a.mean_instants.now a.mean_frequencies.now in
+    record {
+      result_value = c.fit_means.ensures
+          ∙ front_fitted a.instants.now a.positions.now a.samples.now a.frequencies.now a.observer a.f0 a.mean_instants.now a.mean_frequencies.now z d.new.mean_instants d.new.mean_frequencies c.in-Count.n told d.ensures.mean_instants_after d.ensures.mean_frequencies_after i
+          ∙ unless_none 0 (refusal a.instants.now a.positions.now a.samples.now a.frequencies.now a.observer a.f0 a.mean_instants.now a.mean_frequencies.now) (pass_outcome i (recording a.samples.now a.frequencies.now)) (sym z) refl;
+      mean_instants_after = instants_promised a.instants.now a.positions.now a.samples.now a.frequencies.now a.observer a.f0 a.mean_instants.now a.mean_frequencies.now z d.new.mean_instants d.ensures.mean_instants_after;
+      mean_frequencies_after = frequencies_promised a.instants.now a.positions.now a.samples.now a.frequencies.now a.observer a.f0 a.mean_instants.now a.mean_frequencies.now z d.new.mean_frequencies d.ensures.mean_frequencies_after;
+    }
 
 pub returns-in-Refused : goal.returns-in-Refused
 returns-in-Refused c =
     let a = c.args in
-    let z = sym c.refuse_pass-refusal.ensures ∙ c.if-refusal-ne0.false in
     let d = c.downsample_data-means in
+    let z : refusal a.instants.now a.positions.now a.samples.now a.frequencies.now a.observer a.f0 a.mean_instants.now a.mean_frequencies.now ≡ 0 = sym c.refuse_pass-refusal.ensures ∙ c.if-refusal-ne0.false in
     let M = means (recording a.samples.now a.frequencies.now) in
     absurd (not_refused c.in-Refused.again (length M) (sym (ap downsampled_in c.in-Refused.is) ∙ count_is a.instants.now a.positions.now a.samples.now a.frequencies.now a.observer a.f0 a.mean_instants.now a.mean_frequencies.now z (downsampled_in d.result) d.ensures.result_value))

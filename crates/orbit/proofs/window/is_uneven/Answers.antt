@@ -25,7 +25,7 @@ loop-k-preserved c =
     let args = c.args in
     let tested = c.magnitude.ensures in
     let rest = wide_from (at.k + 1) args.tolerance args.t in
-    let next =
+    let next : c.if-magnitude-tolerance.uneven || rest ≡ uneven args.tolerance args.t =
     (elim c.if-magnitude-tolerance.branch [ then-magnitude-tolerance w ↦ ap (λ (b : Bool). b || rest) w.uneven-is
     ∙ sym (or-true at.uneven)
     ∙ ap (λ (b : Bool). at.uneven || b) (sym (wide_found args.tolerance args.t at.k (omega arith) (ap (lt args.tolerance.0) (sym tested) ∙ w.if-magnitude-tolerance.true)))
