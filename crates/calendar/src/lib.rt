@@ -1,4 +1,6 @@
 // The Gregorian calendar: which dates and times are real, and the instant of each.
+#![tactic(auto)]
+
 mod days;
 mod gregorian;
 mod instants;

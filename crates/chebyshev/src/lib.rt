@@ -1,4 +1,6 @@
 // Chebyshev sums of ten terms, and the inversion of the ten by ten matrix that their coefficients come from.
+#![tactic(auto)]
+
 mod coefficients;
 mod ideal;
 mod inverse;

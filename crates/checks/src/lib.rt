@@ -1,5 +1,7 @@
 // Checks 1 to 7 of document 01, each one function proved equal to its definition, and the first that fails for each entry.
 // A refusal is its number; 0 is none.
+#![tactic(auto)]
+
 mod entries;
 mod instants;
 mod limits;

@@ -1,1 +1,3 @@
+#![tactic(auto)]
+
 // No code: specs/ holds what the definitions of every crate say, proofs/ the laws about it.

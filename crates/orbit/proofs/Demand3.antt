@@ -4,7 +4,7 @@ use mathlib.Core.Path.{◌≡◌, refl, sym, ◌∙◌, ap, subst}
 use mathlib.Core.Logic.{◌≢◌, ◌↔◌}
 use mathlib.Core.Bool.{cond}
 use mathlib.Core.List.{List, [], ◌∷◌, ◌++◌}
-use Prim.Native.Nat.{ℕ, zero, suc, ◌+◌, ◌/◌, ◌≤◌}
+use Prim.Native.Nat.{ℕ, zero, suc, ◌/◌, ◌≤◌}
 use native.Mathlib.Omega.{arith}
 use lib.Dec.{ltb, ltb→lt, lt→ltb}
 use lib.Ieee.Fits.{and_l, and_r, and_i}
@@ -26,7 +26,7 @@ use Rattle.orbit.specs.declared.fit.Report.{Report}
 use Rattle.orbit.proofs.Models.{inversion_eight}
 use Rattle.orbit.specs.Window.{window_seconds, window_start, inversion_of, model_or}
 use Rattle.orbit.specs.Propagation.{Motion, motion_at}
-use Rattle.orbit.specs.Fit.{trial, usable, coarse, shifts, report_of_trial, fit_of, none_usable_refusal}
+use Rattle.orbit.specs.Fit.{trial, coarse, report_of_trial, fit_of, none_usable_refusal}
 use Rattle.orbit.specs.Residuals.{Inputs, propagated_by, moved, lies_outside, outside_count, residual_in, residual_of, keep, residuals}
 use Rattle.orbit.specs.Passes.{approach_or, middle_of, measured_of, pass_outcome, pass_refusal, pass}
 use Rattle.orbit.specs.Demand3.{NoCoarse, tried, measured_for, basis_for, centre_for, shifts_for, tried_at, CentreIs, positioned, propagates, rmse_for, Usable, ShiftsAre, Fields, Choice, Demand3, Call, TwoCalls}

@@ -8,7 +8,7 @@ use native.Mathlib.Nat.{eq-or-lt_of_le, add-zero, le_of_lt}
 use native.Mathlib.Omega.{arith}
 use lib.Dec.{T, ltb→lt, le→leb}
 use lib.IntN.{ℤ, pos, negsuc}
-use lib.Signed.{lt_z, le_z, ◌<ℤ◌, ◌≤ℤ◌, lt_z_yes, <ℤ-≤ℤ_trans}
+use lib.Signed.{lt_z, le_z, ◌<ℤ◌, lt_z_yes, <ℤ-≤ℤ_trans}
 use lib.ListN.{length, get_or}
 use borrow.Author.Tests.{not-false}
 use Rattle.checks.specs.Checks.{unrising}

@@ -1,4 +1,6 @@
 // The tabulated orbit: the Chebyshev model about an instant, position and velocity, the closest approach, the fit of a recording and the whole pass.
+#![tactic(auto)]
+
 mod closest;
 mod fit;
 mod passes;

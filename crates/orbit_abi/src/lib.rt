@@ -1,4 +1,6 @@
 // The library as C and Rust link it (include/orbit.h). Each function is the entry of the same name, with the same promise.
+#![tactic(auto)]
+
 mod board_entries;
 mod chebyshev_entries;
 mod fit_entries;

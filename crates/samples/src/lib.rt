@@ -1,4 +1,6 @@
 // What a recording says by itself: its means by the second, its measured approach, its steepest slope, and the slant range.
+#![tactic(auto)]
+
 mod approach;
 mod means;
 mod runs;

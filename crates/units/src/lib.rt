@@ -1,6 +1,7 @@
 // The units of the ship clock, each a type of its own with one field, so that kilometres cannot stand where metres are meant;
 // the records of three; spans of time and the speed of light by name. An ECEF coordinate is earth-centred and earth-fixed. The units have C's
 // layout, since the exports take them.
+#![tactic(auto)]
 
 // A length in metres.
 #[repr(C)]

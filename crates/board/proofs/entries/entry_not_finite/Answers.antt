@@ -1,6 +1,5 @@
 -- The three tests in turn. Assumes nothing.
 use mathlib.Core.Path.{sym, ◌∙◌}
-use borrow.Author.Rules.{rules}
 use Rattle.board.proofs.entries.entry_not_finite.Goals as goal
 
 pub returns-then-not_finite : goal.returns-then-not_finite

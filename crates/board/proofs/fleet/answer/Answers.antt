@@ -1,7 +1,6 @@
 -- The refusals are tried in their order, and where none holds the mean answers. Assumes nothing.
 use mathlib.Core.Path.{ap, ◌∙◌}
 use native.Mathlib.Omega.{arith}
-use borrow.Author.Rules.{rules}
 use borrow.Author.Tests.{eq-eqb, ne_eqb, lt-ltb}
 use lib.Ieee.{Float}
 use mir.Syntax.{w64}

@@ -1,6 +1,6 @@
 -- Each turn compares two entries of the list, so the tally keeps to it; at the end it has the whole. Of `taken`, `begun`, `compared` and `answer` the
 -- proof knows only that each meets its contract. Assumes nothing.
-use Rattle.std.proofs.Common.{◌≡◌, ℕ, ◌<◌, ◌≤◌, List, sym, ◌∙◌, subst, length, get_or, arith, rules}
+use Rattle.std.proofs.Common.{◌≡◌, ℕ, ◌<◌, List, sym, ◌∙◌, subst, length, get_or, arith, rules}
 use Rattle.std.proofs.lemmas.List.{get_or_default}
 use Rattle.board.specs.declared.entries.Entry.{Entry}
 use Rattle.board.specs.declared.tally.Tally.{Tally}

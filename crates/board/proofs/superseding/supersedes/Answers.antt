@@ -10,7 +10,7 @@ use mir.Val.{SFits, to_z, of_z}
 use mir.ValLaws.{to_z-of_z}
 use Rattle.common.proofs.Integers.{eq_z_neither, eq_z_below}
 use Rattle.board.specs.declared.superseding.Placed.{Placed}
-use Rattle.board.specs.Superseding.{same_satellite, later, same_instant, supersedes}
+use Rattle.board.specs.Superseding.{later, same_instant, supersedes}
 use Rattle.board.proofs.superseding.supersedes.Goals as goal
 
 -- the machine compares two signed numbers by their bits

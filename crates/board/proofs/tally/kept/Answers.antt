@@ -1,6 +1,5 @@
 -- What `passed` gives, with the sum and the count of one survivor more. Assumes nothing.
 use mathlib.Core.Path.{ap}
-use borrow.Author.Rules.{rules}
 use lib.Ieee.{Float}
 use Prim.Native.Nat.{ℕ}
 use Rattle.board.specs.declared.tally.Tally.{Tally}

@@ -1,9 +1,7 @@
 -- A double that is not finite was met before, or the entry has one. Assumes nothing.
 use mathlib.Core.Path.{sym, ap, ◌∙◌}
 use mathlib.Core.Bool.{Bool, ◌||◌}
-use mathlib.Core.Logic.{⊎_elim}
 use Prim.Native.Nat.{◌+◌}
-use borrow.Author.Rules.{rules}
 use Rattle.board.specs.declared.tally.Tally.{Tally}
 use Rattle.board.specs.Board.{entry_not_finite}
 use Rattle.board.proofs.tally.passed.Goals as goal
@@ -17,6 +15,7 @@ pub returns : goal.returns
 returns c =
     let e = c.args.entry in
     ap (flagged c.args.tally)
-    (elim c.if-tally.branch [ then-tally w ↦ w.not_finite-is ∙ sym (ap (λ (b : Bool). b || entry_not_finite e) w.if-tally.true)
-    | else-tally w ↦ w.not_finite-is ∙ c.entry_not_finite-not_finite.ensures ∙ sym (ap (λ (b : Bool). b || entry_not_finite e) w.if-tally.false)
+    (elim c.if-tally.branch [
+      | then-tally w ↦ w.not_finite-is ∙ sym (ap (λ (b : Bool). b || entry_not_finite e) w.if-tally.true)
+      | else-tally w ↦ w.not_finite-is ∙ c.entry_not_finite-not_finite.ensures ∙ sym (ap (λ (b : Bool). b || entry_not_finite e) w.if-tally.false)
     ])

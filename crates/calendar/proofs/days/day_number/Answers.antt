@@ -1,6 +1,5 @@
 -- The two formulas are the sums over the years and over the months. Assumes nothing.
 use Rattle.calendar.proofs.DayNumbers.{day_number_by}
-use borrow.Author.Rules.{rules}
 use Rattle.calendar.proofs.days.day_number.Goals as goal
 
 pub returns : goal.returns

@@ -2,7 +2,6 @@
 -- Assumes nothing.
 use native.Mathlib.Omega.{arith}
 use Rattle.calendar.proofs.Months.{behind-small, months-early, months_late}
-use borrow.Author.Rules.{rules}
 use Rattle.calendar.proofs.days.months_in_days.Goals as goal
 
 pub returns-then-month-le2 : goal.returns-then-month-le2

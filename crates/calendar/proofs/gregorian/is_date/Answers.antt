@@ -5,7 +5,6 @@ use lib.Dec.{leb}
 use Rattle.calendar.specs.Gregorian.{days_of_month}
 use Rattle.calendar.proofs.Tests.{and_both, and_last}
 use borrow.Author.Tests.{lt-leb, le-leb}
-use borrow.Author.Rules.{rules}
 use Rattle.calendar.proofs.gregorian.is_date.Goals as goal
 
 pub returns-then-c-lt1 : goal.returns-then-c-lt1

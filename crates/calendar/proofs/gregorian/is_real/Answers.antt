@@ -1,8 +1,6 @@
 -- The first call decides, or leaves it to the second. Assumes nothing.
-use borrow.Author.Tests.{not-true, not-false}
 use Rattle.calendar.proofs.Tests.{and_first, and_last}
 use mathlib.Core.Path.{sym, ◌∙◌}
-use borrow.Author.Rules.{rules}
 use Rattle.calendar.proofs.gregorian.is_real.Goals as goal
 
 pub returns-then-not-is_date : goal.returns-then-not-is_date

@@ -2,7 +2,7 @@
 -- Assumes nothing.
 use mathlib.Core.Path.{◌≡◌, refl, sym, ap, ap₂, ◌∙◌}
 use mathlib.Core.Bool.{Bool, true, false, cond}
-use borrow.Author.Tests.{not-true, not-false, ltb-false}
+use borrow.Author.Tests.{ltb-false}
 use lib.IntN.{ℤ, pos, nat_abs, ◌+ℤ◌, ◌*ℤ◌}
 use mir.Syntax.{w64}
 use mir.ValLaws.{to_z-of_z}
@@ -16,7 +16,6 @@ use Rattle.calendar.specs.Instants.{since1970, lessened, instant_of}
 use Rattle.calendar.specs.Formulas.{seconds_less, many_seconds, far}
 use Rattle.calendar.proofs.Reals.{facts}
 use Rattle.calendar.proofs.Moments.{seconds-first, far_is_beyond}
-use borrow.Author.Rules.{rules}
 use Rattle.calendar.proofs.instants.instant_of.Goals as goal
 use Rattle.calendar.proofs.instants.instant_of.Goals.{After-beyond, After-is_far, After-joined-t, After-seconds_less-seconds, Else-not-is_real}
 

@@ -1,6 +1,5 @@
 -- The two tests, above and below zero, are the one test of the magnitude. Assumes nothing.
 use Prim.Native.Nat.{◌-◌}
-use borrow.Author.Rules.{rules}
 use Rattle.common.proofs.Parts.{above, below}
 use Rattle.calendar.specs.Formulas.{many_seconds}
 use Rattle.calendar.proofs.instants.is_far.Goals as goal

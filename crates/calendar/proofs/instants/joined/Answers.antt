@@ -8,7 +8,6 @@ use mir.ValLaws.{to_z-of_z, to_z_pos}
 use Rattle.common.specs.Time.{second}
 use Rattle.common.proofs.Parts.{back}
 use Rattle.calendar.proofs.Moments.{product_fits, joined-fits}
-use borrow.Author.Rules.{rules}
 use Rattle.calendar.proofs.instants.joined.Goals as goal
 use Rattle.calendar.proofs.instants.joined.Goals.{Start}
 

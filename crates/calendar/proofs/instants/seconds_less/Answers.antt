@@ -8,12 +8,10 @@ use mir.Val.{SFits, to_z, of_z}
 use mir.ValLaws.{to_z-of_z, to_z_pos}
 use Rattle.common.proofs.Parts.{back}
 use Rattle.calendar.proofs.Moments.{origin-seconds, second-small, widened, between_fits, less-fits}
-use borrow.Author.Rules.{rules}
 use Rattle.calendar.proofs.instants.seconds_less.Goals as goal
 use Rattle.calendar.proofs.instants.seconds_less.Goals.{After-second_number, After-struct_told-1}
 
 -- ---- the seconds from 1970
-
 
 small : (c : After-second_number) → c.second_number.result ≤ 400000000000
 small c = subst (λ (n : ℕ). n ≤ 400000000000) (sym c.second_number.ensures) (second-small c.args.c c.requires)
@@ -28,7 +26,6 @@ read : (c : After-second_number) → to_z w64 c.second_number.result -ℤ pos 62
 read c = ap (λ (z : ℤ). z -ℤ pos 62135596800) (to_z_pos w64 c.second_number.result (omega (arith, small c)))
 
 -- ---- the leap seconds
-
 
 abbrev leaps : After-struct_told-1 → ℤ
 leaps c = c.args.leap_seconds.0

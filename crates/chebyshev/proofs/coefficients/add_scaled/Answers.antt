@@ -1,9 +1,8 @@
 -- Below j the numbers have their share added, from j on they are as they were. Assumes nothing.
-use mathlib.Core.Path.{◌≡◌, refl, ap}
-use Prim.Native.Nat.{ℕ, ◌-◌, ◌≤◌, ◌<◌}
+use mathlib.Core.Path.{refl, ap}
 use native.Mathlib.Omega.{arith}
 use native.Mathlib.Nat.{le_refl}
-use lib.ListN.{length, get_or, length-set}
+use lib.ListN.{get_or, length-set}
 use lib.Ieee.{Float, nan, binary64, add, mul}
 use borrow.Author.Count.{below_none}
 use Rattle.common.proofs.Filled.{filled, filled_more, rest_kept}

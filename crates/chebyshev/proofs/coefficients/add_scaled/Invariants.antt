@@ -1,13 +1,8 @@
 -- Below j the numbers have their share added, from j on they are as they were. Assumes nothing.
-use mathlib.Core.Path.{◌≡◌, refl, ap}
+use mathlib.Core.Path.{◌≡◌}
 use Prim.Native.Nat.{ℕ, ◌-◌, ◌≤◌, ◌<◌}
-use native.Mathlib.Omega.{arith}
-use native.Mathlib.Nat.{le_refl}
-use lib.ListN.{length, get_or, length-set}
-use lib.Ieee.{Float, nan, binary64, add, mul}
-use borrow.Author.Count.{below_none}
-use Rattle.common.proofs.Filled.{filled, filled_more, rest_kept}
-use borrow.Author.Rules.{rules}
+use lib.ListN.{length, get_or}
+use lib.Ieee.{nan, binary64, add, mul}
 use Rattle.chebyshev.proofs.coefficients.add_scaled.Given as goal
 
 abbrev pub invariant-loop-j : goal.invariant-loop-j

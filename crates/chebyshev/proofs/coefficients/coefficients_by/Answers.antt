@@ -1,9 +1,7 @@
 -- Below j the array holds the coefficients, each by what the weighted sum ensures. Assumes nothing.
-use mathlib.Core.Path.{◌≡◌}
 use mathlib.Core.List.{[]}
-use Prim.Native.Nat.{ℕ, ◌-◌, ◌≤◌, ◌<◌}
 use native.Mathlib.Omega.{arith}
-use lib.ListN.{length, get_or, length-set}
+use lib.ListN.{get_or, length-set}
 use lib.Ieee.{nan}
 use borrow.Author.Count.{below_none}
 use Rattle.chebyshev.specs.Recurrence.{rounded, weighted}

@@ -2,13 +2,9 @@
 use mathlib.Core.Path.{◌≡◌}
 use mathlib.Core.List.{[]}
 use Prim.Native.Nat.{ℕ, ◌-◌, ◌≤◌, ◌<◌}
-use native.Mathlib.Omega.{arith}
-use lib.ListN.{length, get_or, length-set}
+use lib.ListN.{length, get_or}
 use lib.Ieee.{nan}
-use borrow.Author.Count.{below_none}
 use Rattle.chebyshev.specs.Recurrence.{rounded, weighted}
-use Rattle.common.proofs.Filled.{filled, filled_more}
-use borrow.Author.Rules.{rules}
 use Rattle.chebyshev.proofs.coefficients.coefficients_by.Given as goal
 
 abbrev pub invariant-loop-j : goal.invariant-loop-j

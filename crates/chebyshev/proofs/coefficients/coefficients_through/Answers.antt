@@ -12,7 +12,6 @@ use Rattle.chebyshev.specs.Recurrence.{terms}
 use Rattle.chebyshev.specs.Inverse.{Row, Matrix, inverted, rows_of}
 use Rattle.chebyshev.specs.Coefficients.{coefficients_by, coefficients_answer}
 use Rattle.chebyshev.proofs.Columns.{inverted_told}
-use borrow.Author.Rules.{rules}
 use Rattle.chebyshev.proofs.coefficients.coefficients_through.Goals as goal
 
 abbrev made : ℕ → Row → Row → Row → Coefficients

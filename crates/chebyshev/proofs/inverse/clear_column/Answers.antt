@@ -5,7 +5,6 @@ use lib.Ieee.{of_bits}
 use Rattle.chebyshev.specs.Inverse.{too_small}
 use Rattle.chebyshev.specs.Steps.{cleared_column}
 use Rattle.chebyshev.proofs.Columns.{small_is, turned}
-use borrow.Author.Rules.{rules}
 use Rattle.chebyshev.proofs.inverse.clear_column.Goals as goal
 use Rattle.chebyshev.proofs.inverse.clear_column.Goals.{After-clear_rows-2, Else-magnitude, Then-magnitude}
 

@@ -3,11 +3,10 @@ use mathlib.Core.Bool.{cond}
 use lib.Dec.{eqb}
 use lib.Ieee.{nan}
 use mathlib.Core.Path.{◌≡◌, refl, ◌∙◌, sym}
-use mathlib.Core.List.{[], ◌++◌}
-use Prim.Native.Nat.{◌≤◌, ◌-◌, ◌+◌}
+use mathlib.Core.List.{[]}
 use native.Mathlib.Omega.{arith}
-use lib.ListN.{length, get_or, set, take, drop}
-use Rattle.chebyshev.specs.Inverse.{cleared, reduced}
+use lib.ListN.{get_or, set}
+use Rattle.chebyshev.specs.Inverse.{reduced}
 use Rattle.chebyshev.proofs.Rows.{cleared-step, cleared_end, cleared-other, cleared-same}
 use borrow.Author.Rules.{rules}
 use Rattle.chebyshev.proofs.inverse.clear_rows.Goals as goal
@@ -22,7 +21,7 @@ loop-r-preserved c =
     let args = c.args in
     let by = get_or args.m.now args.i [] in
     let e : c.if-r-i.m ≡ set at.m at.r (cond (eqb at.r args.i) (get_or at.m at.r []) (reduced (get_or args.factors at.r nan) (get_or at.m at.r []) by)) = elim c.if-r-i.branch [
-      then-r-i w ↦ cleared-other args.i by args.factors at.m c.if-r-i.m at.r w.reduce_row-out.result w.if-r-i.true w.reduce_row-out.ensures w.m-is
+      | then-r-i w ↦ cleared-other args.i by args.factors at.m c.if-r-i.m at.r w.reduce_row-out.result w.if-r-i.true w.reduce_row-out.ensures w.m-is
       | else-r-i w ↦ cleared-same args.i by args.factors at.m c.if-r-i.m at.r w.if-r-i.false w.m-is
     ] in
     (search rules, search rules, rw e (cleared-step args.i by args.factors at.m at.r (omega arith) ∙ at.invariant.2))

@@ -1,13 +1,9 @@
 -- Before row r the rows are cleared, and from it on they are as they were: together the definition of the whole. Assumes nothing.
-use mathlib.Core.Logic.{⊎_elim}
-use mathlib.Core.Path.{◌≡◌, refl, ◌∙◌, sym}
-use mathlib.Core.List.{[], ◌++◌}
-use Prim.Native.Nat.{◌≤◌, ◌-◌, ◌+◌}
-use native.Mathlib.Omega.{arith}
-use lib.ListN.{length, get_or, take, drop}
+use mathlib.Core.Path.{◌≡◌}
+use mathlib.Core.List.{◌++◌}
+use Prim.Native.Nat.{◌≤◌, ◌-◌}
+use lib.ListN.{length, take, drop}
 use Rattle.chebyshev.specs.Inverse.{cleared}
-use Rattle.chebyshev.proofs.Rows.{cleared-step, cleared_end, cleared-other, cleared-same}
-use borrow.Author.Rules.{rules}
 use Rattle.chebyshev.proofs.inverse.clear_rows.Given as goal
 
 abbrev pub invariant-loop-r : goal.invariant-loop-r

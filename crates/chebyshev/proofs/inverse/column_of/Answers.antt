@@ -1,8 +1,7 @@
 -- Below r the array holds the numbers of the column. Assumes nothing.
-use mathlib.Core.Path.{◌≡◌, refl}
-use Prim.Native.Nat.{ℕ, ◌-◌, ◌≤◌, ◌<◌}
+use mathlib.Core.Path.{refl}
 use native.Mathlib.Omega.{arith}
-use lib.ListN.{length, get_or, length-set}
+use lib.ListN.{length-set}
 use lib.Ieee.{nan}
 use borrow.Author.Count.{below_none}
 use Rattle.chebyshev.specs.Inverse.{cell}

@@ -1,13 +1,9 @@
 -- Below r the array holds the numbers of the column. Assumes nothing.
-use mathlib.Core.Path.{◌≡◌, refl}
+use mathlib.Core.Path.{◌≡◌}
 use Prim.Native.Nat.{ℕ, ◌-◌, ◌≤◌, ◌<◌}
-use native.Mathlib.Omega.{arith}
-use lib.ListN.{length, get_or, length-set}
+use lib.ListN.{length, get_or}
 use lib.Ieee.{nan}
-use borrow.Author.Count.{below_none}
 use Rattle.chebyshev.specs.Inverse.{cell}
-use Rattle.common.proofs.Filled.{filled, filled_more}
-use borrow.Author.Rules.{rules}
 use Rattle.chebyshev.proofs.inverse.column_of.Given as goal
 
 abbrev pub invariant-loop-r : goal.invariant-loop-r

@@ -1,11 +1,8 @@
 -- Before index c the row holds the quotients, and after it the numbers as they were: together the definition of the whole. Assumes nothing.
 use borrow.Author.Rules.{rules}
-use mathlib.Core.Path.{◌≡◌, refl, ◌∙◌, sym}
-use mathlib.Core.List.{◌++◌}
-use Prim.Native.Nat.{◌≤◌, ◌-◌}
+use mathlib.Core.Path.{refl, ◌∙◌, sym}
 use native.Mathlib.Omega.{arith}
-use lib.ListN.{length, take, drop, length-set}
-use Rattle.chebyshev.specs.Inverse.{divided}
+use lib.ListN.{length-set}
 use Rattle.chebyshev.proofs.Rows.{divided-step, divided_end}
 use Rattle.chebyshev.proofs.inverse.divide_row.Goals as goal
 

@@ -1,12 +1,9 @@
 -- Before index c the row holds the quotients, and after it the numbers as they were: together the definition of the whole. Assumes nothing.
-use borrow.Author.Rules.{rules}
-use mathlib.Core.Path.{◌≡◌, refl, ◌∙◌, sym}
+use mathlib.Core.Path.{◌≡◌}
 use mathlib.Core.List.{◌++◌}
 use Prim.Native.Nat.{◌≤◌, ◌-◌}
-use native.Mathlib.Omega.{arith}
-use lib.ListN.{length, take, drop, length-set}
+use lib.ListN.{length, take, drop}
 use Rattle.chebyshev.specs.Inverse.{divided}
-use Rattle.chebyshev.proofs.Rows.{divided-step, divided_end}
 use Rattle.chebyshev.proofs.inverse.divide_row.Given as goal
 
 abbrev pub invariant-loop-c : goal.invariant-loop-c

@@ -1,8 +1,7 @@
 -- Below row r the hundred numbers are the matrix's, number k at row k / 10 and column k % 10. Assumes nothing.
-use mathlib.Core.Path.{◌≡◌, ◌∙◌}
-use Prim.Native.Nat.{ℕ, ◌-◌, ◌*◌, ◌/◌, ◌%◌, ◌≤◌, ◌<◌}
+use mathlib.Core.Path.{◌∙◌}
+use Prim.Native.Nat.{ℕ, ◌/◌, ◌%◌, ◌<◌}
 use native.Mathlib.Omega.{arith}
-use lib.ListN.{length, get_or}
 use lib.Ieee.{nan}
 use Rattle.chebyshev.specs.Inverse.{cell}
 use Rattle.common.proofs.Filled.{filled}

@@ -5,7 +5,6 @@ use Rattle.common.specs.Outcome.{Outcome, refused, answered, refusal_in}
 use Rattle.chebyshev.specs.declared.inverse.Inverse.{Inverse}
 use Rattle.common.specs.Lists.{list_of}
 use Rattle.chebyshev.specs.Inverse.{Row, Matrix, inverted, flat, rows_of, answer_of}
-use borrow.Author.Rules.{rules}
 use Rattle.chebyshev.proofs.inverse.invert_matrix_10.Goals as goal
 
 abbrev made : ℕ → Row → Inverse

@@ -1,16 +1,10 @@
 -- `best` is the best row so far and `most` its magnitude; the search from row r on ends where the whole search does. Assumes nothing.
-use mathlib.Core.Logic.{⊎_elim}
-use mathlib.Core.Bool.{true, false}
-use mathlib.Core.Path.{◌≡◌, refl, ◌∙◌, sym, ap}
-use Prim.Native.Nat.{ℕ, ◌≤◌, ◌<◌, ◌-◌, ◌+◌}
-use native.Mathlib.Omega.{arith}
+use mathlib.Core.Path.{◌≡◌}
+use Prim.Native.Nat.{◌≤◌, ◌<◌, ◌-◌}
 use Rattle.float.specs.Signs.{magnitude_of}
 use Rattle.common.specs.Lists.{list_of}
 use Rattle.common.specs.Search.{first_best}
-use Rattle.common.proofs.Search.{search_end}
 use Rattle.chebyshev.specs.Inverse.{cell, greater, pivot_row}
-use Rattle.chebyshev.proofs.Pivots.{pivot_step}
-use borrow.Author.Rules.{rules}
 use Rattle.chebyshev.proofs.inverse.pivot_row.Given as goal
 
 abbrev pub invariant-loop-r : goal.invariant-loop-r

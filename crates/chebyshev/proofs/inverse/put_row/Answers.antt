@@ -1,9 +1,8 @@
 -- Below c the row's numbers stand at their place, and the numbers before row r are as they were. Assumes nothing.
-use mathlib.Core.Path.{◌≡◌, refl, ◌∙◌}
-use Prim.Native.Nat.{ℕ, ◌+◌, ◌-◌, ◌*◌, ◌≤◌, ◌<◌}
+use mathlib.Core.Path.{refl, ◌∙◌}
+use Prim.Native.Nat.{◌+◌, ◌*◌, ◌<◌}
 use native.Mathlib.Omega.{arith}
-use lib.ListN.{length, get_or, length-set}
-use lib.Ieee.{nan}
+use lib.ListN.{length, length-set}
 use borrow.Author.Count.{below_none}
 use Rattle.chebyshev.proofs.Rows.{put-before, put-within}
 use borrow.Author.Rules.{rules}

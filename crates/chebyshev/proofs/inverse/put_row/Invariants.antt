@@ -1,12 +1,8 @@
 -- Below c the row's numbers stand at their place, and the numbers before row r are as they were. Assumes nothing.
-use mathlib.Core.Path.{◌≡◌, refl, ◌∙◌}
+use mathlib.Core.Path.{◌≡◌}
 use Prim.Native.Nat.{ℕ, ◌+◌, ◌-◌, ◌*◌, ◌≤◌, ◌<◌}
-use native.Mathlib.Omega.{arith}
-use lib.ListN.{length, get_or, length-set}
+use lib.ListN.{length, get_or}
 use lib.Ieee.{nan}
-use borrow.Author.Count.{below_none}
-use Rattle.chebyshev.proofs.Rows.{put-before, put-within}
-use borrow.Author.Rules.{rules}
 use Rattle.chebyshev.proofs.inverse.put_row.Given as goal
 
 abbrev pub invariant-loop-c : goal.invariant-loop-c

@@ -1,11 +1,8 @@
 -- Before index c the row holds the reduced numbers, and after it the numbers as they were: together the definition of the whole. Assumes nothing.
 use borrow.Author.Rules.{rules}
-use mathlib.Core.Path.{◌≡◌, refl, ◌∙◌, sym}
-use mathlib.Core.List.{◌++◌}
-use Prim.Native.Nat.{◌≤◌, ◌-◌}
+use mathlib.Core.Path.{refl, ◌∙◌, sym}
 use native.Mathlib.Omega.{arith}
-use lib.ListN.{length, take, drop, length-set}
-use Rattle.chebyshev.specs.Inverse.{reduced}
+use lib.ListN.{length-set}
 use Rattle.chebyshev.proofs.Rows.{reduced-step, reduced_end}
 use Rattle.chebyshev.proofs.inverse.reduce_row.Goals as goal
 

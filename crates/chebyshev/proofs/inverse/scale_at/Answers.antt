@@ -2,7 +2,6 @@
 use mathlib.Core.Path.{ap}
 use lib.ListN.{set}
 use Rattle.chebyshev.specs.Inverse.{Row}
-use borrow.Author.Rules.{rules}
 use Rattle.chebyshev.proofs.inverse.scale_at.Goals as goal
 
 pub returns : goal.returns

@@ -1,6 +1,5 @@
 -- Two different rows are exchanged by value; a row exchanged with itself is as it was. Assumes nothing.
 use Rattle.chebyshev.proofs.Rows.{exchanged_same}
-use borrow.Author.Rules.{rules}
 use Rattle.chebyshev.proofs.inverse.swap_rows.Goals as goal
 
 pub returns-else-i-j : goal.returns-else-i-j

@@ -1,7 +1,6 @@
 -- Value and slope are the weighted sums of the polynomials and of their derivatives, by what the callees ensure. Assumes nothing.
 use mathlib.Core.Path.{ap, ◌∙◌}
 use Rattle.chebyshev.specs.Recurrence.{rounded, weighted}
-use borrow.Author.Rules.{rules}
 use Rattle.chebyshev.proofs.recurrence.evaluate_chebyshev.Goals as goal
 
 pub slopes_from-requires : goal.slopes_from-requires

@@ -3,7 +3,7 @@ use mathlib.Core.Path.{◌≡◌, refl, ap, ◌∙◌}
 use mathlib.Core.List.{List, ◌∷◌}
 use Prim.Native.Nat.{ℕ, zero, suc, ◌+◌, ◌-◌, ◌≤◌, ◌<◌}
 use native.Mathlib.Omega.{arith}
-use lib.ListN.{length, get_or, length-set, replicate}
+use lib.ListN.{get_or, length-set, replicate}
 use lib.Ieee.{Float, nan, binary64, of_bits, add, sub, mul}
 use Rattle.chebyshev.specs.Recurrence.{rounded, T, T', polynomials}
 use Rattle.common.proofs.Filled.{filled, filled_more, get_or-list_of}

@@ -1,14 +1,9 @@
 -- As for the values: below j the array holds T'0 to T'(j − 1), and a turn writes T'j by the differentiated recurrence. Assumes nothing.
-use mathlib.Core.Path.{◌≡◌, refl, ap, ◌∙◌}
-use mathlib.Core.List.{List, ◌∷◌}
-use Prim.Native.Nat.{ℕ, zero, suc, ◌+◌, ◌-◌, ◌≤◌, ◌<◌}
-use native.Mathlib.Omega.{arith}
-use lib.ListN.{length, get_or, length-set, replicate}
-use lib.Ieee.{Float, nan, binary64, of_bits, add, sub, mul}
-use Rattle.chebyshev.specs.Recurrence.{rounded, T, T', polynomials}
-use Rattle.common.proofs.Filled.{filled, filled_more, get_or-list_of}
-use Rattle.chebyshev.proofs.Sums.{T'-step}
-use borrow.Author.Rules.{rules}
+use mathlib.Core.Path.{◌≡◌}
+use Prim.Native.Nat.{ℕ, ◌-◌, ◌≤◌, ◌<◌}
+use lib.ListN.{length, get_or}
+use lib.Ieee.{nan}
+use Rattle.chebyshev.specs.Recurrence.{rounded, T', polynomials}
 use Rattle.chebyshev.proofs.recurrence.slopes_from.Given as goal
 
 abbrev pub invariant-loop-j : goal.invariant-loop-j

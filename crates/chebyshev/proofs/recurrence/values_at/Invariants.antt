@@ -1,14 +1,9 @@
 -- Below j the array holds T0 to T(j − 1), so a turn writes Tj by the recurrence, and at the end the array is T0 to T9. Assumes nothing.
-use mathlib.Core.Path.{◌≡◌, refl}
-use mathlib.Core.List.{List, ◌∷◌}
-use Prim.Native.Nat.{ℕ, zero, suc, ◌-◌, ◌≤◌, ◌<◌}
-use native.Mathlib.Omega.{arith}
-use lib.ListN.{length, get_or, length-set, replicate}
-use lib.Ieee.{Float, nan, binary64, of_bits, sub, mul}
+use mathlib.Core.Path.{◌≡◌}
+use Prim.Native.Nat.{ℕ, ◌-◌, ◌≤◌, ◌<◌}
+use lib.ListN.{length, get_or}
+use lib.Ieee.{nan}
 use Rattle.chebyshev.specs.Recurrence.{rounded, T}
-use Rattle.common.proofs.Filled.{filled, filled_more}
-use Rattle.chebyshev.proofs.Sums.{T-step}
-use borrow.Author.Rules.{rules}
 use Rattle.chebyshev.proofs.recurrence.values_at.Given as goal
 
 abbrev pub invariant-loop-j : goal.invariant-loop-j

@@ -1,10 +1,8 @@
 -- The sum so far and the terms that are left make up the whole sum, at each turn. Assumes nothing.
-use mathlib.Core.Path.{◌≡◌, refl, sym, ◌∙◌}
-use Prim.Native.Nat.{◌-◌, ◌≤◌}
+use mathlib.Core.Path.{refl, sym, ◌∙◌}
 use native.Mathlib.Omega.{arith}
-use lib.ListN.{length, drop}
 use lib.Ieee.{nan, of_bits}
-use Rattle.chebyshev.specs.Recurrence.{rounded, weighted, weighted_from}
+use Rattle.chebyshev.specs.Recurrence.{rounded}
 use Rattle.chebyshev.proofs.Sums.{weighted-step, weighted_end}
 use borrow.Author.Rules.{rules}
 use Rattle.chebyshev.proofs.recurrence.weighted_sum.Goals as goal

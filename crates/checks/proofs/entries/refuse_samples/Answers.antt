@@ -1,6 +1,5 @@
 -- Check after check, each by what its function said of it; in turn they give the first that fails. Assumes nothing.
 use mathlib.Core.Path.{refl, ◌∙◌}
-use borrow.Author.Rules.{rules}
 use Rattle.checks.proofs.First.{numbered, in_turn, in_turn_lem, one_more}
 use Rattle.checks.proofs.entries.refuse_samples.Goals as goal
 

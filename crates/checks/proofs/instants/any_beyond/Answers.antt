@@ -1,13 +1,12 @@
 -- The search from index i on ends as the whole search does. Assumes nothing.
-use mathlib.Core.Path.{◌≡◌, refl}
-use Prim.Native.Nat.{◌≤◌, ◌-◌}
+use mathlib.Core.Path.{refl}
 use native.Mathlib.Omega.{arith}
 use borrow.Author.Rules.{rules}
-use lib.ListN.{length, get_or, drop}
+use lib.ListN.{get_or}
 use lib.IntN.{pos}
 use mir.Syntax.{w64}
 use mir.Val.{SFits}
-use Rattle.checks.specs.Checks.{any, beyond}
+use Rattle.checks.specs.Checks.{beyond}
 use Rattle.checks.proofs.Orders.{said}
 use Rattle.checks.proofs.Lists.{any_found, any_more, any_none}
 use Rattle.checks.proofs.instants.any_beyond.Goals as goal

@@ -1,15 +1,8 @@
 -- The search from index i on ends as the whole search does. Assumes nothing.
-use mathlib.Core.Path.{◌≡◌, refl}
+use mathlib.Core.Path.{◌≡◌}
 use Prim.Native.Nat.{◌≤◌, ◌-◌}
-use native.Mathlib.Omega.{arith}
-use borrow.Author.Rules.{rules}
-use lib.ListN.{length, get_or, drop}
-use lib.IntN.{pos}
-use mir.Syntax.{w64}
-use mir.Val.{SFits}
+use lib.ListN.{length, drop}
 use Rattle.checks.specs.Checks.{any, beyond}
-use Rattle.checks.proofs.Orders.{said}
-use Rattle.checks.proofs.Lists.{any_found, any_more, any_none}
 use Rattle.checks.proofs.instants.any_beyond.Given as goal
 
 abbrev pub invariant-loop-i : goal.invariant-loop-i

@@ -1,7 +1,6 @@
 -- The three tests in turn. Assumes nothing.
 use native.Mathlib.Omega.{arith}
 use borrow.Author.Tests.{lt-ltb, le-ltb}
-use borrow.Author.Rules.{rules}
 use lib.ListN.{length}
 use Rattle.checks.specs.Limits.{least_coordinates, most_coordinates}
 use Rattle.checks.proofs.instants.miscounted.Goals as goal

@@ -1,14 +1,13 @@
 -- The search from the pair that ends at index i on ends as the whole search does. Assumes nothing.
-use mathlib.Core.Path.{◌≡◌, refl}
+use mathlib.Core.Path.{refl}
 use mathlib.Core.Bool.{true, false}
-use Prim.Native.Nat.{◌≤◌, ◌-◌}
+use Prim.Native.Nat.{◌-◌}
 use native.Mathlib.Omega.{arith}
 use borrow.Author.Rules.{rules}
-use lib.ListN.{length, drop, get_or}
+use lib.ListN.{get_or}
 use lib.IntN.{pos}
 use mir.Syntax.{w64}
 use mir.Val.{SFits}
-use Rattle.checks.specs.Checks.{unrising}
 use Rattle.checks.proofs.Lists.{rising_short, rising_found, rising_more, rising_none}
 use Rattle.checks.proofs.Orders.{not_before}
 use Rattle.checks.proofs.instants.unrising.Goals as goal

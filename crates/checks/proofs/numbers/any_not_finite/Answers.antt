@@ -1,11 +1,9 @@
 -- The search from index i on ends as the whole search does. Assumes nothing.
-use mathlib.Core.Path.{◌≡◌, refl, sym, ◌∙◌}
-use Prim.Native.Nat.{◌≤◌, ◌-◌}
+use mathlib.Core.Path.{refl, sym, ◌∙◌}
 use native.Mathlib.Omega.{arith}
 use borrow.Author.Rules.{rules}
-use lib.ListN.{length, drop}
 use lib.Ieee.{nan}
-use Rattle.checks.specs.Checks.{any, not_finite}
+use Rattle.checks.specs.Checks.{not_finite}
 use Rattle.checks.proofs.Lists.{any_found, any_more, any_none}
 use Rattle.checks.proofs.numbers.any_not_finite.Goals as goal
 

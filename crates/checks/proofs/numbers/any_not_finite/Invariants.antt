@@ -1,12 +1,8 @@
 -- The search from index i on ends as the whole search does. Assumes nothing.
-use mathlib.Core.Path.{◌≡◌, refl, sym, ◌∙◌}
+use mathlib.Core.Path.{◌≡◌}
 use Prim.Native.Nat.{◌≤◌, ◌-◌}
-use native.Mathlib.Omega.{arith}
-use borrow.Author.Rules.{rules}
 use lib.ListN.{length, drop}
-use lib.Ieee.{nan}
 use Rattle.checks.specs.Checks.{any, not_finite}
-use Rattle.checks.proofs.Lists.{any_found, any_more, any_none}
 use Rattle.checks.proofs.numbers.any_not_finite.Given as goal
 
 abbrev pub invariant-loop-i : goal.invariant-loop-i

@@ -1,6 +1,5 @@
 -- The two tests in turn. Assumes nothing.
 use mathlib.Core.Path.{sym, ◌∙◌}
-use borrow.Author.Rules.{rules}
 use lib.Ieee.{of_bits}
 use Rattle.checks.proofs.numbers.no_centre.Goals as goal
 

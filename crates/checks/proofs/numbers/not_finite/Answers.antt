@@ -1,7 +1,6 @@
 -- 1 / 0 is the infinity, and exactly the finite doubles have a magnitude below it. Assumes nothing.
 use mathlib.Core.Path.{◌≡◌, refl}
 use mathlib.Core.Bool.{false, not}
-use borrow.Author.Rules.{rules}
 use lib.Ieee.{Float, nan, inf, fin, of_bits, lt, div}
 use Rattle.float.specs.Signs.{magnitude_of}
 use Rattle.checks.specs.Checks.{not_finite}

@@ -1,12 +1,8 @@
 -- The search from place k on ends as the whole search does; the doubles after the last whole place are not looked at. Assumes nothing.
-use mathlib.Core.Path.{◌≡◌, refl, sym, ◌∙◌}
-use Prim.Native.Nat.{◌≤◌, ◌<◌, ◌-◌, ◌+◌, ◌*◌}
+use mathlib.Core.Path.{refl, sym, ◌∙◌}
 use native.Mathlib.Omega.{arith}
 use borrow.Author.Rules.{rules}
-use lib.ListN.{length, drop}
 use lib.Ieee.{nan}
-use Rattle.checks.specs.Limits.{axes}
-use Rattle.checks.specs.Checks.{any_misplaced}
 use Rattle.checks.proofs.Lists.{place_found, place_more, place_none}
 use Rattle.checks.proofs.places.any_misplaced.Goals as goal
 

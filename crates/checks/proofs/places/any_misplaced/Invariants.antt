@@ -1,13 +1,9 @@
 -- The search from place k on ends as the whole search does; the doubles after the last whole place are not looked at. Assumes nothing.
-use mathlib.Core.Path.{◌≡◌, refl, sym, ◌∙◌}
+use mathlib.Core.Path.{◌≡◌}
 use Prim.Native.Nat.{◌≤◌, ◌<◌, ◌-◌, ◌+◌, ◌*◌}
-use native.Mathlib.Omega.{arith}
-use borrow.Author.Rules.{rules}
 use lib.ListN.{length, drop}
-use lib.Ieee.{nan}
 use Rattle.checks.specs.Limits.{axes}
 use Rattle.checks.specs.Checks.{any_misplaced}
-use Rattle.checks.proofs.Lists.{place_found, place_more, place_none}
 use Rattle.checks.proofs.places.any_misplaced.Given as goal
 
 abbrev pub invariant-loop-k : goal.invariant-loop-k

@@ -1,7 +1,5 @@
 -- The tests in turn, each settling one part of the definition. Assumes nothing.
 use mathlib.Core.Path.{sym, ◌∙◌}
-use borrow.Author.Tests.{not-true, not-false}
-use borrow.Author.Rules.{rules}
 use Rattle.checks.proofs.places.misplaced.Goals as goal
 
 pub returns-then-unreachable : goal.returns-then-unreachable

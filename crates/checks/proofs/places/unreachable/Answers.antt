@@ -1,5 +1,4 @@
 -- The test is the definition's, and the number the code writes is its limit. Assumes nothing.
-use borrow.Author.Rules.{rules}
 use lib.Ieee.{of_bits}
 use Rattle.checks.proofs.places.unreachable.Goals as goal
 

@@ -1,5 +1,4 @@
 -- Too many columns, no place for the point, no number before it, another byte there, or the decimals behind it. Assumes nothing.
-use borrow.Author.Rules.{rules}
 use mathlib.Core.Path.{◌≡◌, refl, sym, ap, ◌∙◌}
 use mathlib.Core.Bool.{Bool, true, false, cond}
 use mathlib.Core.List.{List, []}

@@ -1,7 +1,5 @@
 -- By the first byte: none, a minus where one may stand, or a digit. Assumes nothing.
-use borrow.Author.Rules.{rules}
 use mathlib.Core.Path.{sym, ◌∙◌}
-use mathlib.Core.Logic.{⊎_elim}
 use native.Mathlib.Omega.{arith}
 use Rattle.decimal.proofs.Bytes.{signed_none, minus-first, minus-other, minus_none}
 use Rattle.decimal.proofs.reading.signed_digits.Goals as goal
@@ -21,6 +19,6 @@ returns c =
     c.some_digits-2.ensures
     ∙ sym
     (elim c.if-signed.branch [
-      then-signed+else-text-from-eq45 w ↦ minus-other a.text.now a.from a.signed (omega (arith, c.requires.0)) w.if-signed.true w.if-text-from-eq45.false
+      | then-signed+else-text-from-eq45 w ↦ minus-other a.text.now a.from a.signed (omega (arith, c.requires.0)) w.if-signed.true w.if-text-from-eq45.false
       | else-signed w ↦ minus_none a.text.now a.from a.signed (omega (arith, c.requires.0)) w.if-signed.false
     ])

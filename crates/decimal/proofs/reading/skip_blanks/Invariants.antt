@@ -1,10 +1,7 @@
 -- Before each turn only blanks were passed, so what is left behind the blanks of the rest is what is left behind those of the whole. Assumes nothing.
-use borrow.Author.Rules.{rules}
-use mathlib.Core.Path.{◌≡◌, refl, ◌∙◌}
+use mathlib.Core.Path.{◌≡◌}
 use Prim.Native.Nat.{◌≤◌, ◌-◌}
-use native.Mathlib.Omega.{arith}
 use lib.ListN.{length, drop}
-use Rattle.decimal.proofs.Bytes.{blank-first, blank_not, blank_end}
 use Rattle.decimal.specs.Reading.{after_blanks}
 use Rattle.decimal.proofs.reading.skip_blanks.Given as goal
 

@@ -1,5 +1,4 @@
 -- Too many columns, or what stands behind the blanks. Assumes nothing.
-use borrow.Author.Rules.{rules}
 use mathlib.Core.Path.{sym, ap, ◌∙◌}
 use mathlib.Core.Bool.{Bool, cond}
 use lib.ListN.{length}

@@ -1,5 +1,5 @@
 -- By the sign: the magnitude is rounded, and a negative number's double is that of its magnitude, negated. Assumes nothing.
-use Rattle.std.proofs.Common.{ℕ, true, false, pos, nat_abs, ap, ◌∙◌, w64, rules}
+use Rattle.std.proofs.Common.{ℕ, true, false, pos, nat_abs, ap, ◌∙◌, w64}
 use mir.ValLaws.{to_z-of_z}
 use lib.Ieee.{binary64, of_int, neg}
 use Rattle.float.proofs.Integers.{read_back, of_int_up, of_int_down}

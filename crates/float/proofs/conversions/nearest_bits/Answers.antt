@@ -1,5 +1,5 @@
 -- Shifted up to 64 digits, n keeps 53 and drops 11, and what is added is one exactly where rounding to nearest, ties to even, goes up. Assumes nothing.
-use Rattle.std.proofs.Common.{◌≡◌, ℕ, ◌+◌, ◌-◌, ◌*◌, ◌%◌, ◌^◌, sym, ap, ◌∙◌, mod-eq_of_lt, arith, rules}
+use Rattle.std.proofs.Common.{◌≡◌, ℕ, ◌+◌, ◌-◌, ◌*◌, ◌%◌, ◌^◌, sym, ap, ◌∙◌, mod-eq_of_lt, arith}
 use lib.Count.{count_leading_zeros}
 use lib.Ieee.{binary64, of_bits}
 use Rattle.float.proofs.Integers.{Tops, tops, int_rounds, closest_code}

@@ -1,5 +1,5 @@
 -- A zero is a zero; any other number by its bits. Assumes nothing.
-use Rattle.std.proofs.Common.{ℕ, pos, sym, ap, ◌∙◌, arith, rules}
+use Rattle.std.proofs.Common.{ℕ, pos, sym, ap, ◌∙◌, arith}
 use lib.Ieee.{binary64, of_int}
 use Rattle.float.proofs.Nans.{no_nan_bits}
 use Rattle.float.proofs.Integers.{of_int-zero, of_int_pos}

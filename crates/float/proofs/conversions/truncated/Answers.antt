@@ -1,5 +1,5 @@
 -- The fields are the double's own, so the whole part is that of its magnitude; the sign and the ends of the range give the rest. Assumes nothing.
-use Rattle.std.proofs.Common.{◌≡◌, ℕ, ◌-◌, ◌<◌, min, T, ℤ, pos, negsuc, ◌-ℤ◌, neg_ℤ, sym, ap, ◌∙◌, subst, arith, w64, SFits, to_z, of_z, rules}
+use Rattle.std.proofs.Common.{◌≡◌, ℕ, ◌-◌, ◌<◌, min, T, ℤ, pos, negsuc, ◌-ℤ◌, neg_ℤ, sym, ap, ◌∙◌, subst, arith, w64, SFits, to_z, of_z}
 use mir.ValLaws.{to_z-of_z, to_z_pos}
 use lib.Ieee.{binary64, fits}
 use Rattle.float.proofs.Nans.{no_nan}

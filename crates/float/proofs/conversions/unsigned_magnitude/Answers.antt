@@ -1,5 +1,5 @@
 -- n itself, or of an n below zero −1 − n, which fits, and one more. Assumes nothing.
-use Rattle.std.proofs.Common.{◌≡◌, ℕ, ◌+◌, ◌<◌, true, false, T, ℤ, pos, negsuc, ◌-ℤ◌, nat_abs, sym, ap, ◌∙◌, subst, lt_of_lt_of_le, arith, lit≤, w64, Fits, SFits, to_z, of_z, rules}
+use Rattle.std.proofs.Common.{◌≡◌, ℕ, ◌+◌, ◌<◌, true, false, T, ℤ, pos, negsuc, ◌-ℤ◌, nat_abs, sym, ap, ◌∙◌, subst, lt_of_lt_of_le, arith, lit≤, w64, Fits, SFits, to_z, of_z}
 use lib.Signed.{non_neg}
 use mir.ValLaws.{to_z-of_z, to_z_pos}
 use Rattle.float.proofs.Integers.{read_back, at_zero_up, below_zero}

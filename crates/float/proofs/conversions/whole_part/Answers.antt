@@ -1,5 +1,5 @@
 -- By the exponent: below one there is no whole part, from 2 ^ 63 on the end of the range, and between the digits are shifted to their place. Assumes nothing.
-use Rattle.std.proofs.Common.{◌≡◌, ◌+◌, ◌-◌, ◌*◌, ◌%◌, ◌^◌, true, mod-eq_of_lt, arith, rules}
+use Rattle.std.proofs.Common.{◌≡◌, ◌+◌, ◌-◌, ◌*◌, ◌%◌, ◌^◌, true, mod-eq_of_lt, arith}
 use Rattle.float.proofs.WholeParts.{whole-small, whole_mid, whole_high, whole_large}
 use Rattle.float.proofs.conversions.whole_part.Goals as goal
 

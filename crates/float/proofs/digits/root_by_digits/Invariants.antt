@@ -1,8 +1,6 @@
 -- Both loops keep root * root + rest equal to the part of m * 2 ^ 54 that is taken up: the leading
 -- 2 * i digits of m in the first, m * 4 ^ (i - 27) in the second. Assumes nothing.
-use Rattle.std.proofs.Common.{◌≡◌, ℕ, ◌+◌, ◌-◌, ◌*◌, ◌/◌, ◌%◌, ◌^◌, ◌<◌, ◌≤◌, sym, ap, ◌∙◌, subst, mul_assoc, mul-one, div-one, arith, pow_mono, pow-add, shr-shr}
-use native.Mathlib.Nat.{div-eq_of_lt}
-use lib.Bits.{bit_and, and_mask, mask_lt}
+use Rattle.std.proofs.Common.{◌≡◌, ◌+◌, ◌-◌, ◌*◌, ◌/◌, ◌^◌, ◌<◌, ◌≤◌}
 use Rattle.float.proofs.digits.root_by_digits.Given as goal
 
 abbrev pub invariant-loop-i : goal.invariant-loop-i

@@ -1,5 +1,5 @@
 -- Only safety: the patterns made are no NaNs, and nothing overflows. Nothing is promised of the number. Assumes nothing.
-use Rattle.std.proofs.Common.{ℕ, ◌+◌, ◌-◌, ◌*◌, ◌/◌, ◌^◌, ◌<◌, div-le_self, arith, rules}
+use Rattle.std.proofs.Common.{ℕ, ◌+◌, ◌-◌, ◌*◌, ◌/◌, ◌^◌, ◌<◌, div-le_self, arith}
 use Rattle.float.proofs.Nans.{no_nan_bits}
 use Rattle.float.proofs.estimate.estimate.Goals as goal
 

@@ -1,5 +1,5 @@
 -- p * p + r is the radicand throughout: the estimate is raised while the rest is too large for a whole root, and then it is the whole root. Assumes nothing.
-use Rattle.std.proofs.Common.{◌≡◌, ℕ, ◌+◌, ◌-◌, ◌*◌, ◌/◌, ◌<◌, ◌≤◌, le_trans, mul-le-mul_left, div-mul-le_self, arith, rules}
+use Rattle.std.proofs.Common.{◌≡◌, ℕ, ◌+◌, ◌-◌, ◌*◌, ◌/◌, ◌<◌, ◌≤◌, le_trans, mul-le-mul_left, div-mul-le_self, arith}
 use Rattle.float.proofs.Squares.{square_lt}
 use Rattle.float.proofs.estimate.refine.Goals as goal
 use Rattle.float.proofs.estimate.refine.Goals.{Else-t-gt32, In-loop-root}

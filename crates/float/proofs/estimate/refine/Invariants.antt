@@ -1,6 +1,5 @@
 -- p * p + r is the radicand throughout: the estimate is raised while the rest is too large for a whole root, and then it is the whole root. Assumes nothing.
-use Rattle.std.proofs.Common.{◌≡◌, ℕ, ◌+◌, ◌-◌, ◌*◌, ◌/◌, ◌<◌, ◌≤◌, le_trans, mul-le-mul_left, div-mul-le_self, arith, rules}
-use Rattle.float.proofs.Squares.{square_lt}
+use Rattle.std.proofs.Common.{◌≡◌, ◌+◌, ◌*◌}
 use Rattle.float.proofs.estimate.refine.Given as goal
 
 abbrev pub invariant-loop-root : goal.invariant-loop-root

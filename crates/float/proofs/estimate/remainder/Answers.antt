@@ -1,5 +1,5 @@
 -- p is split into halves of 27 bits, and m * 2 ^ 54 − p * p is worked out from the top, given up where a part would be too large. Assumes nothing.
-use Rattle.std.proofs.Common.{◌≡◌, ℕ, ◌+◌, ◌-◌, ◌*◌, ◌/◌, ◌%◌, ◌<◌, ◌≤◌, le_of_lt, mul-le-mul_left, arith, rules}
+use Rattle.std.proofs.Common.{◌≡◌, ℕ, ◌+◌, ◌-◌, ◌*◌, ◌/◌, ◌%◌, ◌<◌, ◌≤◌, le_of_lt, mul-le-mul_left, arith}
 use Rattle.float.proofs.estimate.remainder.Goals as goal
 
 product : (a b : ℕ) → a < 134217728 → b < 134217728 → a * b < 18014398509481984

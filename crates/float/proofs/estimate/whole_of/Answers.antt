@@ -1,5 +1,5 @@
 -- Only safety: the cast is made where the number is in its range. Assumes nothing.
-use Rattle.std.proofs.Common.{T, sym, subst, rules}
+use Rattle.std.proofs.Common.{T, sym, subst}
 use lib.Ieee.{of_bits, neg}
 use Rattle.float.proofs.estimate.whole_of.Goals as goal
 

@@ -1,7 +1,7 @@
 -- The whole root of the digits, one digit more than is kept, is rounded half up: no tie occurs, so that is the nearest. Assumes nothing.
-use Rattle.std.proofs.Common.{ℕ, zero, suc, ◌+◌, ◌*◌, ◌/◌, ◌%◌, ◌<◌, ◌≤◌, sym, ap, ◌∙◌, arith, rules}
+use Rattle.std.proofs.Common.{ℕ, zero, suc, ◌+◌, ◌*◌, ◌/◌, ◌%◌, ◌<◌, ◌≤◌, sym, ap, ◌∙◌, arith}
 use lib.Ieee.{binary64}
-use Rattle.float.specs.Root.{root, root_of}
+use Rattle.float.specs.Root.{root_of}
 use Rattle.float.proofs.Roots.{root_by_digits, even_place}
 use Rattle.float.proofs.root.root_bits.Goals as goal
 

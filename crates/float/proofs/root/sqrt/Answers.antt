@@ -1,5 +1,5 @@
 -- By the bit pattern: NaN, the zeros and infinity give themselves, positive doubles their root by digits, and what is left NaN. Assumes nothing.
-use Rattle.std.proofs.Common.{T, sym, ap, ◌∙◌, subst, arith, rules}
+use Rattle.std.proofs.Common.{T, sym, ap, ◌∙◌, subst, arith}
 use lib.Ieee.{binary64, to_bits, fits}
 use lib.Ieee.Bits.{of_bits-to_bits, to_bits-lt}
 use Rattle.float.specs.Root.{root}

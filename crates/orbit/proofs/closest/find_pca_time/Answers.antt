@@ -1,6 +1,5 @@
 -- Refused inputs give their number; else the instant is the search's, and its place that of this instant. Assumes nothing.
 use mathlib.Core.Path.{◌≡◌, sym, ◌∙◌}
-use Prim.Native.Nat.{ℕ}
 use native.Mathlib.Omega.{arith}
 use lib.IntN.{ℤ}
 use lib.Ieee.{of_bits}
@@ -9,9 +8,8 @@ use Rattle.checks.specs.Checked.{Table}
 use Rattle.checks.proofs.Checked.{closest_table, closest_near}
 use Rattle.common.proofs.Outcomes.{outcome-refused, outcome-answered}
 use Rattle.orbit.specs.Window.{even_tolerance}
-use Rattle.orbit.specs.Place.{Located, located}
+use Rattle.orbit.specs.Place.{located}
 use Rattle.orbit.specs.Closest.{closest_instant}
-use borrow.Author.Rules.{rules}
 use Rattle.orbit.proofs.closest.find_pca_time.Goals as goal
 use Rattle.orbit.proofs.closest.find_pca_time.Goals.{Else-refusal-ne0, Start}
 

@@ -3,11 +3,9 @@ use mathlib.Core.Path.{◌≡◌, ap, ◌∙◌}
 use mir.Syntax.{w64}
 use mir.Val.{to_z, of_z}
 use mir.ValLaws.{to_z-of_z}
-use Rattle.common.specs.Outcome.{Outcome}
-use Rattle.orbit.specs.Propagation.{Motion, motion_in, propagated}
+use Rattle.orbit.specs.Propagation.{motion_in, propagated}
 use Rattle.orbit.specs.Closest.{moved_by_seconds}
 use Rattle.orbit.proofs.Ranges.{nearer-refused, nearer-won, nearer_lost}
-use borrow.Author.Rules.{rules}
 use Rattle.orbit.proofs.closest.nearer_at.Goals as goal
 use Rattle.orbit.proofs.closest.nearer_at.Goals.{After-propagate_at, Start}
 

@@ -6,10 +6,8 @@ use native.Mathlib.Nat.{le_trans, le_of_lt, mul-le-mul_left}
 use lib.IntN.{ℤ, nat_abs}
 use mir.Syntax.{w64}
 use mir.ValLaws.{to_z-of_z}
-use Rattle.common.specs.Lists.{list_of}
-use Rattle.common.specs.Search.{better_of, first_best}
+use Rattle.common.specs.Search.{better_of}
 use Rattle.common.proofs.Search.{search_step, search_end}
-use Rattle.orbit.specs.declared.closest.LeastRange.{LeastRange}
 use Rattle.orbit.specs.Closest.{nearer, offset_at, ranged, ranged_at}
 use Rattle.orbit.proofs.Offsets.{back, offset_small}
 use Rattle.orbit.specs.Bounds.{farthest_offset}

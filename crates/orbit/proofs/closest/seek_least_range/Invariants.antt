@@ -1,19 +1,9 @@
 -- The search from the k-th offset on ends where the whole search does. Assumes nothing.
-use mathlib.Core.Path.{◌≡◌, refl, sym, ap, ◌∙◌, subst}
-use Prim.Native.Nat.{ℕ, ◌+◌, ◌-◌, ◌*◌, ◌≤◌, ◌<◌}
-use native.Mathlib.Omega.{arith}
-use native.Mathlib.Nat.{le_trans, le_of_lt, mul-le-mul_left}
-use lib.IntN.{ℤ, nat_abs}
-use mir.Syntax.{w64}
-use mir.ValLaws.{to_z-of_z}
+use mathlib.Core.Path.{◌≡◌}
+use Prim.Native.Nat.{◌-◌, ◌≤◌}
 use Rattle.common.specs.Lists.{list_of}
-use Rattle.common.specs.Search.{better_of, first_best}
-use Rattle.common.proofs.Search.{search_step, search_end}
-use Rattle.orbit.specs.declared.closest.LeastRange.{LeastRange}
-use Rattle.orbit.specs.Closest.{nearer, offset_at, ranged, ranged_at}
-use Rattle.orbit.proofs.Offsets.{back, offset_small}
-use Rattle.orbit.specs.Bounds.{farthest_offset}
-use borrow.Author.Rules.{rules}
+use Rattle.common.specs.Search.{first_best}
+use Rattle.orbit.specs.Closest.{nearer, ranged_at}
 use Rattle.orbit.proofs.closest.seek_least_range.Given as goal
 
 abbrev pub invariant-loop-k : goal.invariant-loop-k

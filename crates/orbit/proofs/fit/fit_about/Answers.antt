@@ -6,8 +6,7 @@ use Prim.Native.Nat.{ℕ, ◌≤◌}
 use native.Mathlib.Omega.{arith}
 use lib.IntN.{ℤ, nat_abs}
 use lib.ListN.{length}
-use lib.Ieee.{Float, lt, of_bits}
-use Rattle.common.specs.Numbers.{largest_finite}
+use lib.Ieee.{Float, of_bits}
 use Rattle.common.specs.Outcome.{Outcome, refused, answered}
 use Rattle.float.specs.Bounds.{Within}
 use Rattle.samples.specs.Means.{recording}

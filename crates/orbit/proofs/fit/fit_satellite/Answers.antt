@@ -1,17 +1,13 @@
 -- Refused inputs give their number; else the samples have room among the values and the fit is the definition's. Assumes nothing.
 use mathlib.Core.Path.{sym, ◌∙◌}
-use Prim.Native.Nat.{ℕ}
 use lib.Ieee.{of_bits}
 use Rattle.samples.specs.Means.{recording}
-use Rattle.common.specs.Outcome.{Outcome}
 use Rattle.checks.specs.Entries.{first_failing, fit_checks}
 use Rattle.checks.proofs.Checked.{fit_table, fit_samples, fit_near}
 use Rattle.common.proofs.Outcomes.{unless_refused_lem, unless_none}
-use Rattle.orbit.specs.declared.fit.Report.{Report}
 use Rattle.orbit.specs.Window.{even_tolerance}
 use Rattle.orbit.specs.Fit.{given, fit_of}
 use Rattle.orbit.specs.Residuals.{settings_of, inputs_of}
-use borrow.Author.Rules.{rules}
 use Rattle.orbit.proofs.fit.fit_satellite.Goals as goal
 use Rattle.orbit.proofs.fit.fit_satellite.Goals.{Start}
 

@@ -11,7 +11,6 @@ use Rattle.orbit.specs.Passes.{approach_or, middle_of, measured_by}
 use Rattle.orbit.proofs.Offsets.{near_is}
 use Rattle.orbit.proofs.Middles.{measured-near}
 use Rattle.checks.specs.Limits.{farthest_instant}
-use borrow.Author.Rules.{rules}
 use Rattle.orbit.proofs.passes.approach_or_middle.Goals as goal
 use Rattle.orbit.proofs.passes.approach_or_middle.Goals.{After-estimate_measured_pca_time-approach, Start}
 

@@ -4,7 +4,6 @@ use Rattle.samples.specs.Means.{recording}
 use Rattle.orbit.specs.declared.fit.Measured.{Measured}
 use Rattle.orbit.specs.Fit.{fit_of}
 use Rattle.orbit.specs.Residuals.{inputs_of}
-use borrow.Author.Rules.{rules}
 use Rattle.orbit.proofs.passes.fit_means.Goals as goal
 
 pub fit_about-requires : goal.fit_about-requires

@@ -11,7 +11,7 @@ use Rattle.units.specs.declared.Hertz.{Hertz}
 use Rattle.units.specs.declared.Observer.{Observer}
 use Rattle.common.specs.Outcome.{Outcome, answered, outcome, area, written}
 use Rattle.checks.proofs.Checked.{pass-table, pass-samples, pass_areas, means-pass}
-use Rattle.checks.specs.Checked.{Table, Samples}
+use Rattle.checks.specs.Checked.{Samples}
 use Rattle.common.proofs.Outcomes.{unless_refused_lem, unless_none, area-refused}
 use Rattle.samples.specs.Means.{Sample, recording, means, instants, frequencies, downsample_refusal, downsampled_in}
 use Rattle.samples.proofs.Seconds.{few-means}
@@ -70,7 +70,7 @@ module _ (times : List ℤ) (positions : List Float) (ts : List ℤ) (fs : List 
     few n e = let u = few-means (recording ts fs) in let v = record_length ts fs passed.same in omega (arith, u, v, e)
 
     module _ (l : List ℤ) (k : List Float) (n : ℕ) (e : n ≡ length the_means)
-      (el : l ≡ area (downsample_refusal ts fs is hs) (instants the_means) is) (ek : k ≡ area (downsample_refusal ts fs is hs) (frequencies the_means) hs) where
+        (el : l ≡ area (downsample_refusal ts fs is hs) (instants the_means) is) (ek : k ≡ area (downsample_refusal ts fs is hs) (frequencies the_means) hs) where
       instants_front : take n l ≡ instants the_means
       instants_front = front (instants the_means) is l n (e ∙ sym (length-map the_means (λ (x : Sample). x.instant))) (instants-written l el)
 
@@ -98,7 +98,7 @@ returns-then-refusal-ne0 c =
     }
 
 module _ (times : List ℤ) (positions : List Float) (ts : List ℤ) (fs : List Float) (observer : Observer) (f0 : Hertz) (is : List ℤ) (hs : List Float)
-  (none : refusal times positions ts fs observer f0 is hs ≡ 0) where
+    (none : refusal times positions ts fs observer f0 is hs ≡ 0) where
   -- the count that is told is that of the means
   told_is : (n : ℕ) (r : Downsampled) → r ≡ Count n → downsampled_in r ≡ outcome (downsample_refusal ts fs is hs) (length (means (recording ts fs))) → n ≡ length (means (recording ts fs))
   told_is n r e f = same_count n (length (means (recording ts fs))) (sym (ap downsampled_in e) ∙ count_is times positions ts fs observer f0 is hs none (downsampled_in r) f)
@@ -147,8 +147,7 @@ fit_means-requires c =
     let a = c.args in
     let d = c.downsample_data-means in
     let z : refusal a.instants.now a.positions.now a.samples.now a.frequencies.now a.observer a.f0 a.mean_instants.now a.mean_frequencies.now ≡ 0 = sym c.refuse_pass-refusal.ensures ∙ c.if-refusal-ne0.false in
-    let told = told_is a.instants.now a.positions.now a.samples.now a.frequencies.now a.observer a.f0 a.mean_instants.now a.mean_frequencies.now z c.in-Count.n d.result c.in-Count.is d.ensures.result_value in
-    (
+    let told = told_is a.instants.now a.positions.now a.samples.now a.frequencies.now a.observer a.f0 a.mean_instants.now a.mean_frequencies.now z c.in-Count.n d.result c.in-Count.is d.ensures.result_value in (
       pass-table a.instants.now a.positions.now a.samples.now a.frequencies.now a.observer a.f0 a.mean_instants.now a.mean_frequencies.now z,
       front_sampled a.instants.now a.positions.now a.samples.now a.frequencies.now a.observer a.f0 a.mean_instants.now a.mean_frequencies.now z d.new.mean_instants d.new.mean_frequencies c.in-Count.n told d.ensures.mean_instants_after d.ensures.mean_frequencies_after,
     )

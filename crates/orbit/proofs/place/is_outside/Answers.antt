@@ -1,7 +1,6 @@
 -- By the case of the place. Assumes nothing.
 use mathlib.Core.Path.{sym, ap}
 use Rattle.orbit.specs.Place.{is_outside}
-use borrow.Author.Rules.{rules}
 use Rattle.orbit.proofs.place.is_outside.Goals as goal
 
 pub returns-in-Before : goal.returns-in-Before

@@ -1,14 +1,12 @@
 -- The machine's two comparisons are those of the whole numbers, and so decide the place. Assumes nothing.
 use mathlib.Core.Path.{◌≡◌, sym, ap, ap₂, ◌∙◌}
 use mathlib.Core.Bool.{Bool, cond}
-use lib.IntN.{ℤ}
 use lib.Signed.{lt_z}
 use mir.Syntax.{w64}
 use mir.ValLaws.{to_z-of_z}
 use Rattle.orbit.specs.declared.place.Place.TheVariants.{Before, Within, After}
 use Rattle.orbit.specs.Place.{first_instant, last_instant}
 use Rattle.orbit.proofs.Offsets.{back}
-use borrow.Author.Rules.{rules}
 use Rattle.orbit.proofs.place.place_of.Goals as goal
 use Rattle.orbit.proofs.place.place_of.Goals.{After-struct_told-1, After-struct_told-2-1, Start}
 

@@ -3,7 +3,6 @@ use mathlib.Core.Path.{◌∙◌}
 use Rattle.checks.specs.Entries.{first_failing, evaluation_checks}
 use Rattle.common.proofs.Outcomes.{outcome-refused, outcome-answered}
 use Rattle.orbit.specs.Propagation.{motion_at}
-use borrow.Author.Rules.{rules}
 use Rattle.orbit.proofs.propagation.evaluate.Goals as goal
 
 pub returns-then-refusal-ne0 : goal.returns-then-refusal-ne0

@@ -4,7 +4,6 @@ use lib.Ieee.{of_bits}
 use Rattle.chebyshev.specs.Recurrence.{rounded, polynomials, derivatives, weighted}
 use Rattle.orbit.specs.Window.{tau_of}
 use Rattle.orbit.specs.Propagation.{tau_at}
-use borrow.Author.Rules.{rules}
 use Rattle.orbit.proofs.propagation.motion_at.Goals as goal
 use Rattle.orbit.proofs.propagation.motion_at.Goals.{After-tau_of-tau}
 

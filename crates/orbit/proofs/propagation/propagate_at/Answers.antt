@@ -3,7 +3,6 @@ use mathlib.Core.Path.{◌≡◌, ap, ◌∙◌}
 use Prim.Native.Nat.{ℕ}
 use Rattle.orbit.specs.Window.{window_start, window_seconds, inversion_of, model_at, model_about, model_answer}
 use Rattle.orbit.proofs.Models.{inversion_told, propagation_refused, propagation_answered}
-use borrow.Author.Rules.{rules}
 use Rattle.orbit.proofs.propagation.propagate_at.Goals as goal
 use Rattle.orbit.proofs.propagation.propagate_at.Goals.{After-model_at-model}
 

@@ -1,6 +1,5 @@
 -- Refused inputs give their number; a table that passed propagates the instant, and where it has a position its place stands beside that. Assumes nothing.
 use mathlib.Core.Path.{◌≡◌, sym, ap, ◌∙◌}
-use Prim.Native.Nat.{ℕ}
 use native.Mathlib.Omega.{arith}
 use lib.Ieee.{of_bits}
 use Rattle.common.specs.Outcome.{Outcome, mapped, unless_refused}
@@ -9,9 +8,8 @@ use Rattle.checks.specs.Checked.{Table}
 use Rattle.checks.proofs.Checked.{propagation_table}
 use Rattle.common.proofs.Outcomes.{unless_refused_lem, unless_none}
 use Rattle.orbit.specs.Window.{even_tolerance}
-use Rattle.orbit.specs.Place.{Located, located}
+use Rattle.orbit.specs.Place.{located}
 use Rattle.orbit.specs.Propagation.{Motion, motion_in, propagated}
-use borrow.Author.Rules.{rules}
 use Rattle.orbit.proofs.propagation.propagate_ecef.Goals as goal
 use Rattle.orbit.proofs.propagation.propagate_ecef.Goals.{After-propagate_at-motion, Else-refusal-ne0, Start}
 

@@ -1,24 +1,22 @@
 -- The values so far and the residuals of the samples that are left make up those of the whole recording. Assumes nothing.
 use mathlib.Core.Path.{◌≡◌, refl, sym, ap, ◌∙◌, subst}
 use mathlib.Core.List.{List, [], ◌++◌}
-use Prim.Native.Nat.{◌+◌, ◌-◌, ◌≤◌}
+use Prim.Native.Nat.{◌+◌, ◌≤◌}
 use native.Mathlib.Omega.{arith}
 use lib.IntN.{ℤ, pos, nat_abs, ◌-ℤ◌, ◌*ℤ◌}
-use lib.ListN.{length, get_or, take, drop}
+use lib.ListN.{get_or, take, drop}
 use lib.Ieee.{Float, nan}
 use mir.Syntax.{w64}
-use mir.Val.{to_z}
 use mir.ValLaws.{to_z-of_z}
 use Rattle.common.specs.Time.{microsecond}
-use Rattle.samples.specs.Means.{Sample, recording}
+use Rattle.samples.specs.Means.{recording}
 use Rattle.orbit.specs.Propagation.{propagated}
-use Rattle.orbit.specs.Residuals.{Residual, whole_microseconds, moved, residual_in, keep, residuals}
+use Rattle.orbit.specs.Residuals.{whole_microseconds, residual_in, keep, residuals}
 use Rattle.orbit.proofs.Collected.{residuals-step, residuals_end}
 use Rattle.orbit.proofs.Shifts.{microseconds_small}
 use Rattle.orbit.proofs.Offsets.{back, near_is}
 use Rattle.checks.specs.Limits.{farthest_instant}
 use Rattle.orbit.specs.Bounds.{farthest_micros}
-use Rattle.orbit.specs.declared.settings.Settings.{Settings}
 use borrow.Author.Rules.{rules}
 use Rattle.orbit.proofs.residuals.collect_residuals.Invariants.{residual_by}
 use Rattle.orbit.proofs.residuals.collect_residuals.Goals as goal

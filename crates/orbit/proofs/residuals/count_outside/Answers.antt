@@ -1,15 +1,11 @@
 -- Those counted so far and those of the samples that are left make up those of all the samples. Assumes nothing.
 use mathlib.Core.Path.{◌≡◌, refl, sym, ap, ◌∙◌, subst}
-use mathlib.Core.Logic.{⊎_elim}
-use mathlib.Core.Bool.{Bool}
-use mathlib.Core.List.{List}
-use Prim.Native.Nat.{◌+◌, ◌-◌, ◌≤◌}
+use Prim.Native.Nat.{◌≤◌}
 use native.Mathlib.Nat.{add-zero}
 use native.Mathlib.Omega.{arith}
 use lib.IntN.{ℤ, pos, nat_abs, ◌-ℤ◌, ◌*ℤ◌}
-use lib.ListN.{length, get_or, drop}
+use lib.ListN.{get_or}
 use mir.Syntax.{w64}
-use mir.Val.{to_z}
 use mir.ValLaws.{to_z-of_z}
 use Rattle.common.specs.Time.{microsecond}
 use Rattle.common.specs.Lists.{how_many}
@@ -30,11 +26,10 @@ pub loop-i-init : goal.loop-i-init
 loop-i-init c = (search rules, search rules, refl, add-zero _)
 
 pub moved_earlier-t-requires : goal.moved_earlier-t-requires
-moved_earlier-t-requires c =
-    (
-      subst (λ (z : ℤ). nat_abs z ≤ farthest_instant) (sym (near_is ((get_or c.args.samples.now c.loop-i.i (pos 0))) ((let it : nat_abs ((get_or c.args.samples.now c.loop-i.i (pos 0))) ≤ farthest_instant = c.requires.1 c.loop-i.i in it)))) ((let it : nat_abs ((get_or c.args.samples.now c.loop-i.i (pos 0))) ≤ farthest_instant = c.requires.1 c.loop-i.i in it)),
-      subst (λ (z : ℤ). nat_abs z ≤ farthest_micros) (sym ((let it : (back c.microseconds_of-micros.result) ≡ whole_microseconds c.args.shift.0 = let call = c.microseconds_of-micros in to_z-of_z w64 call.result (record { sfits = call.type_inv }) ∙ call.ensures in it))) (microseconds_small c.args.shift.0 c.requires.2),
-    )
+moved_earlier-t-requires c = (
+  subst (λ (z : ℤ). nat_abs z ≤ farthest_instant) (sym (near_is ((get_or c.args.samples.now c.loop-i.i (pos 0))) ((let it : nat_abs ((get_or c.args.samples.now c.loop-i.i (pos 0))) ≤ farthest_instant = c.requires.1 c.loop-i.i in it)))) ((let it : nat_abs ((get_or c.args.samples.now c.loop-i.i (pos 0))) ≤ farthest_instant = c.requires.1 c.loop-i.i in it)),
+  subst (λ (z : ℤ). nat_abs z ≤ farthest_micros) (sym ((let it : (back c.microseconds_of-micros.result) ≡ whole_microseconds c.args.shift.0 = let call = c.microseconds_of-micros in to_z-of_z w64 call.result (record { sfits = call.type_inv }) ∙ call.ensures in it))) (microseconds_small c.args.shift.0 c.requires.2),
+)
 
 pub place_of-requires : goal.place_of-requires
 place_of-requires c = c.requires.0
@@ -44,8 +39,9 @@ loop-i-preserved c =
     let at = c.loop-i in
     let ts = c.args.samples.now in
     let p = outside_by c.args.instants.now ((back c.microseconds_of-micros.result)) in
-    (elim c.if-is_outside.branch [ then-is_outside w ↦ (search rules, omega (arith, at.invariant.1, w.count-is), refl, rw w.count-is (counted_yes p ts at.i at.count (omega arith) ((let it : outside_by c.args.instants.now ((back c.microseconds_of-micros.result)) ((get_or c.args.samples.now c.loop-i.i (pos 0))) ≡ c.is_outside.result = let instants = c.args.instants.now in sym (c.is_outside.ensures ∙ ap is_outside c.place_of.ensures ∙ ap (λ (z : ℤ). is_outside (place_of instants z)) (c.moved_earlier-t.ensures ∙ ap (λ (y : ℤ). y -ℤ (back c.microseconds_of-micros.result) *ℤ pos microsecond) (near_is ((get_or c.args.samples.now c.loop-i.i (pos 0))) ((let it : nat_abs ((get_or c.args.samples.now c.loop-i.i (pos 0))) ≤ farthest_instant = c.requires.1 c.loop-i.i in it))))) in it) ∙ w.if-is_outside.true) ∙ at.invariant.3))
-    | else-is_outside w ↦ (search rules, omega (arith, at.invariant.1, w.count-is), refl, rw w.count-is (counted_no p ts at.i at.count (omega arith) ((let it : outside_by c.args.instants.now ((back c.microseconds_of-micros.result)) ((get_or c.args.samples.now c.loop-i.i (pos 0))) ≡ c.is_outside.result = let instants = c.args.instants.now in sym (c.is_outside.ensures ∙ ap is_outside c.place_of.ensures ∙ ap (λ (z : ℤ). is_outside (place_of instants z)) (c.moved_earlier-t.ensures ∙ ap (λ (y : ℤ). y -ℤ (back c.microseconds_of-micros.result) *ℤ pos microsecond) (near_is ((get_or c.args.samples.now c.loop-i.i (pos 0))) ((let it : nat_abs ((get_or c.args.samples.now c.loop-i.i (pos 0))) ≤ farthest_instant = c.requires.1 c.loop-i.i in it))))) in it) ∙ w.if-is_outside.false) ∙ at.invariant.3))
+    (elim c.if-is_outside.branch [
+      | then-is_outside w ↦ (search rules, omega (arith, at.invariant.1, w.count-is), refl, rw w.count-is (counted_yes p ts at.i at.count (omega arith) ((let it : outside_by c.args.instants.now ((back c.microseconds_of-micros.result)) ((get_or c.args.samples.now c.loop-i.i (pos 0))) ≡ c.is_outside.result = let instants = c.args.instants.now in sym (c.is_outside.ensures ∙ ap is_outside c.place_of.ensures ∙ ap (λ (z : ℤ). is_outside (place_of instants z)) (c.moved_earlier-t.ensures ∙ ap (λ (y : ℤ). y -ℤ (back c.microseconds_of-micros.result) *ℤ pos microsecond) (near_is ((get_or c.args.samples.now c.loop-i.i (pos 0))) ((let it : nat_abs ((get_or c.args.samples.now c.loop-i.i (pos 0))) ≤ farthest_instant = c.requires.1 c.loop-i.i in it))))) in it) ∙ w.if-is_outside.true) ∙ at.invariant.3))
+      | else-is_outside w ↦ (search rules, omega (arith, at.invariant.1, w.count-is), refl, rw w.count-is (counted_no p ts at.i at.count (omega arith) ((let it : outside_by c.args.instants.now ((back c.microseconds_of-micros.result)) ((get_or c.args.samples.now c.loop-i.i (pos 0))) ≡ c.is_outside.result = let instants = c.args.instants.now in sym (c.is_outside.ensures ∙ ap is_outside c.place_of.ensures ∙ ap (λ (z : ℤ). is_outside (place_of instants z)) (c.moved_earlier-t.ensures ∙ ap (λ (y : ℤ). y -ℤ (back c.microseconds_of-micros.result) *ℤ pos microsecond) (near_is ((get_or c.args.samples.now c.loop-i.i (pos 0))) ((let it : nat_abs ((get_or c.args.samples.now c.loop-i.i (pos 0))) ≤ farthest_instant = c.requires.1 c.loop-i.i in it))))) in it) ∙ w.if-is_outside.false) ∙ at.invariant.3))
     ])
 
 pub returns : goal.returns

@@ -1,26 +1,13 @@
 -- Those counted so far and those of the samples that are left make up those of all the samples. Assumes nothing.
-use mathlib.Core.Path.{◌≡◌, refl, sym, ap, ◌∙◌, subst}
-use mathlib.Core.Logic.{⊎_elim}
+use mathlib.Core.Path.{◌≡◌}
 use mathlib.Core.Bool.{Bool}
 use mathlib.Core.List.{List}
 use Prim.Native.Nat.{◌+◌, ◌-◌, ◌≤◌}
-use native.Mathlib.Nat.{add-zero}
-use native.Mathlib.Omega.{arith}
-use lib.IntN.{ℤ, pos, nat_abs, ◌-ℤ◌, ◌*ℤ◌}
-use lib.ListN.{length, get_or, drop}
-use mir.Syntax.{w64}
-use mir.Val.{to_z}
-use mir.ValLaws.{to_z-of_z}
+use lib.IntN.{ℤ, pos, ◌-ℤ◌, ◌*ℤ◌}
+use lib.ListN.{length, drop}
 use Rattle.common.specs.Time.{microsecond}
 use Rattle.common.specs.Lists.{how_many}
-use Rattle.checks.specs.Limits.{farthest_instant}
-use Rattle.orbit.specs.Bounds.{farthest_micros}
 use Rattle.orbit.specs.Place.{place_of, is_outside}
-use Rattle.orbit.specs.Residuals.{whole_microseconds}
-use Rattle.orbit.proofs.Collected.{counted_yes, counted_no, counted_end}
-use Rattle.orbit.proofs.Shifts.{microseconds_small}
-use Rattle.orbit.proofs.Offsets.{back, near_is}
-use borrow.Author.Rules.{rules}
 use Rattle.orbit.proofs.residuals.count_outside.Given as goal
 
 -- whether an instant that is moved earlier by a count of microseconds lies outside

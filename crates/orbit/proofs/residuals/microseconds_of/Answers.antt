@@ -3,7 +3,6 @@ use mathlib.Core.Path.{◌∙◌}
 use lib.Ieee.{of_bits}
 use mir.Syntax.{w64}
 use mir.ValLaws.{to_z-of_z}
-use borrow.Author.Rules.{rules}
 use Rattle.orbit.proofs.residuals.microseconds_of.Goals as goal
 
 pub returns : goal.returns

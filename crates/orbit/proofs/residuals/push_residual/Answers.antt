@@ -1,6 +1,6 @@
 -- An instant without a position leaves the values, any other has its residual put after them. Assumes nothing.
 use mathlib.Core.Path.{sym, ap, ◌∙◌}
-use mathlib.Core.List.{List, [], ◌∷◌, ◌++◌, append-nil}
+use mathlib.Core.List.{[], ◌∷◌, ◌++◌, append-nil}
 use native.Mathlib.Omega.{arith}
 use lib.ListN.{take}
 use lib.Ieee.{Float}
@@ -8,7 +8,6 @@ use Rattle.common.specs.Outcome.{Outcome}
 use Rattle.orbit.specs.Propagation.{Motion, motion_in, propagated}
 use Rattle.orbit.specs.Residuals.{keep, residual_in}
 use Rattle.orbit.proofs.Collected.{pushed}
-use borrow.Author.Rules.{rules}
 use Rattle.orbit.proofs.residuals.push_residual.Goals as goal
 use Rattle.orbit.proofs.residuals.push_residual.Goals.{Start}
 
@@ -22,8 +21,7 @@ returns-in_default c =
 
 pub returns : goal.returns
 returns c =
-    let a = c.args in
-    (
+    let a = c.args in (
       omega arith,
       pushed a.values.now a.count c.residual_at-residual.result.0 c.requires.1
           ∙ ap (λ (y : Float). take a.count a.values.now ++ y ∷ []) c.residual_at-residual.ensures

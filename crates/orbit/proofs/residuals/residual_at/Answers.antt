@@ -1,6 +1,5 @@
 -- The operations are the definition's, in its order, and the range is the root of the squared range. Assumes nothing.
 use lib.Ieee.{of_bits}
-use borrow.Author.Rules.{rules}
 use Rattle.orbit.proofs.residuals.residual_at.Goals as goal
 
 pub returns : goal.returns

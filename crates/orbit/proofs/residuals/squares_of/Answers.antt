@@ -1,14 +1,10 @@
 -- The sum so far and the squares that are left make up the whole sum. Assumes nothing.
 use mathlib.Core.Path.{◌≡◌, sym, ◌∙◌}
-use Prim.Native.Nat.{◌-◌, ◌≤◌}
+use Prim.Native.Nat.{◌-◌}
 use native.Mathlib.Omega.{arith}
-use lib.ListN.{take, drop}
 use lib.Ieee.{of_bits, neg}
-use mathlib.Core.List.{map}
 use Rattle.orbit.specs.Residuals.{squared_deviation}
-use Rattle.common.specs.Numbers.{minus_zero}
 use Rattle.common.proofs.Sums.{mapped-step, mapped_end}
-use Rattle.common.specs.Sums.{sum_from}
 use borrow.Author.Rules.{rules}
 use Rattle.orbit.proofs.residuals.squares_of.Goals as goal
 

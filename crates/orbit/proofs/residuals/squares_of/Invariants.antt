@@ -1,15 +1,11 @@
 -- The sum so far and the squares that are left make up the whole sum. Assumes nothing.
-use mathlib.Core.Path.{◌≡◌, sym, ◌∙◌}
+use mathlib.Core.Path.{◌≡◌}
 use Prim.Native.Nat.{◌-◌, ◌≤◌}
-use native.Mathlib.Omega.{arith}
 use lib.ListN.{take, drop}
-use lib.Ieee.{of_bits, neg}
 use mathlib.Core.List.{map}
 use Rattle.orbit.specs.Residuals.{squared_deviation}
 use Rattle.common.specs.Numbers.{minus_zero}
-use Rattle.common.proofs.Sums.{mapped-step, mapped_end}
 use Rattle.common.specs.Sums.{sum_from}
-use borrow.Author.Rules.{rules}
 use Rattle.orbit.proofs.residuals.squares_of.Given as goal
 
 abbrev pub invariant-loop-i : goal.invariant-loop-i

@@ -1,12 +1,9 @@
 -- The sum so far and the values that are left make up the whole sum. Assumes nothing.
 use mathlib.Core.Path.{◌≡◌, sym, ◌∙◌}
-use Prim.Native.Nat.{◌-◌, ◌≤◌}
+use Prim.Native.Nat.{◌-◌}
 use native.Mathlib.Omega.{arith}
-use lib.ListN.{take, drop}
 use lib.Ieee.{of_bits, neg}
-use Rattle.common.specs.Numbers.{minus_zero}
 use Rattle.common.proofs.Sums.{sum_step, sum_end}
-use Rattle.common.specs.Sums.{sum_from}
 use borrow.Author.Rules.{rules}
 use Rattle.orbit.proofs.residuals.sum_of.Goals as goal
 

@@ -1,15 +1,13 @@
 -- One stage about the centre, and a second one about 0 where the centre's magnitude is over 5: the definition's list. Assumes nothing.
 use mathlib.Core.Path.{◌≡◌, sym, ap, ap₂, ◌∙◌, subst}
 use native.Mathlib.Omega.{arith}
-use borrow.Author.Tests.{not-true, not-false}
-use lib.Ieee.{Float, lt, of_bits}
+use lib.Ieee.{lt, of_bits}
 use Rattle.common.specs.Numbers.{nought, five}
 use Rattle.orbit.specs.declared.stages.Stage.{Stage}
 use Rattle.orbit.specs.Bounds.{SmallStage}
-use Rattle.orbit.specs.Fit.{Trial, none_yet, coarse_stage}
+use Rattle.orbit.specs.Fit.{none_yet, coarse_stage}
 use Rattle.orbit.specs.Stages.{trial_by, state, after_stage}
 use Rattle.orbit.proofs.Finish.{still_fitting, coarse-fits, coarse-one, coarse-two}
-use borrow.Author.Rules.{rules}
 use Rattle.orbit.proofs.stages.coarse_stage.Goals as goal
 use Rattle.orbit.proofs.stages.coarse_stage.Goals.{After-run_stage-best, Start}
 

@@ -1,15 +1,13 @@
 -- The two stages run one after the other, each about the best shift before, which is small. Assumes nothing.
 use mathlib.Core.Path.{◌≡◌, sym, ap, ◌∙◌, subst}
-use lib.Ieee.{Float}
 use Rattle.float.specs.Bounds.{Within}
 use Rattle.orbit.specs.declared.stages.Stage.{Stage}
 use Rattle.orbit.specs.declared.stages.LeastSoFar.{LeastSoFar}
 use Rattle.orbit.specs.Bounds.{SmallStage, farthest_fine}
-use Rattle.orbit.specs.Fit.{Trial, fine_stage, micro_stage}
+use Rattle.orbit.specs.Fit.{fine_stage, micro_stage}
 use Rattle.orbit.specs.Stages.{trial_by, after_stage, after_further}
 use Rattle.orbit.proofs.Trials.{shift_is}
 use Rattle.orbit.proofs.Finish.{still_fitting, fine_fits, micro_fits, fine_small}
-use borrow.Author.Rules.{rules}
 use Rattle.orbit.proofs.stages.refine.Goals as goal
 use Rattle.orbit.proofs.stages.refine.Goals.{After-run_stage-fine, Start}
 

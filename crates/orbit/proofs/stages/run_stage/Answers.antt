@@ -1,15 +1,14 @@
 -- The least so far and the shifts that are left make up the whole stage; every shift of it is small. Assumes nothing.
 use mathlib.Core.Path.{◌≡◌, refl, sym, ap, ◌∙◌, subst}
 use mathlib.Core.List.{map}
-use Prim.Native.Nat.{◌+◌, ◌-◌, ◌≤◌, ◌<◌}
+use Prim.Native.Nat.{◌+◌, ◌-◌, ◌<◌}
 use native.Mathlib.Omega.{arith}
-use lib.ListN.{length}
 use lib.Ieee.{Float}
 use Rattle.float.specs.Bounds.{Within}
 use Rattle.common.specs.Lists.{list_of}
 use Rattle.orbit.specs.declared.stages.LeastSoFar.{LeastSoFar}
-use Rattle.orbit.specs.Fit.{Trial, shift_at, shifts_of}
-use Rattle.orbit.specs.Stages.{trial_by, update, updates, after_stage}
+use Rattle.orbit.specs.Fit.{shift_at, shifts_of}
+use Rattle.orbit.specs.Stages.{trial_by, update, updates}
 use Rattle.orbit.proofs.Shifts.{stage_within, weaken}
 use Rattle.orbit.proofs.Updates.{stage_step, stage_end}
 use Rattle.orbit.proofs.Finish.{still_fitting}

@@ -1,20 +1,11 @@
 -- The least so far and the shifts that are left make up the whole stage; every shift of it is small. Assumes nothing.
-use mathlib.Core.Path.{◌≡◌, refl, sym, ap, ◌∙◌, subst}
+use mathlib.Core.Path.{◌≡◌}
 use mathlib.Core.List.{map}
-use Prim.Native.Nat.{◌+◌, ◌-◌, ◌≤◌, ◌<◌}
-use native.Mathlib.Omega.{arith}
+use Prim.Native.Nat.{◌-◌, ◌≤◌}
 use lib.ListN.{length}
-use lib.Ieee.{Float}
-use Rattle.float.specs.Bounds.{Within}
 use Rattle.common.specs.Lists.{list_of}
-use Rattle.orbit.specs.declared.stages.LeastSoFar.{LeastSoFar}
-use Rattle.orbit.specs.Fit.{Trial, shift_at, shifts_of}
-use Rattle.orbit.specs.Stages.{trial_by, update, updates, after_stage}
-use Rattle.orbit.proofs.Shifts.{stage_within, weaken}
-use Rattle.orbit.proofs.Updates.{stage_step, stage_end}
-use Rattle.orbit.proofs.Finish.{still_fitting}
-use Rattle.orbit.specs.Bounds.{farthest_start, farthest_shift, most_steps}
-use borrow.Author.Rules.{rules}
+use Rattle.orbit.specs.Fit.{shift_at}
+use Rattle.orbit.specs.Stages.{trial_by, updates, after_stage}
 use Rattle.orbit.proofs.stages.run_stage.Given as goal
 
 abbrev pub invariant-loop-step : goal.invariant-loop-step

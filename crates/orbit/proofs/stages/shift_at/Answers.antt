@@ -6,7 +6,6 @@ use Rattle.common.specs.Rounded.{◌⊕◌, ◌⊗◌}
 use mir.Syntax.{w64}
 use mir.ValLaws.{to_z_pos}
 use Rattle.float.specs.Conversions.{nearest_of}
-use borrow.Author.Rules.{rules}
 use Rattle.orbit.proofs.stages.shift_at.Goals as goal
 
 pub returns : goal.returns

@@ -1,7 +1,7 @@
 -- The values hold the residuals, their mean is the frequency offset and the root of their mean squared rest the RMSE; the tests are the definition's.
 -- Assumes nothing.
 use mathlib.Core.Path.{◌≡◌, ap, ◌∙◌}
-use mathlib.Core.List.{List, map}
+use mathlib.Core.List.{map}
 use Prim.Native.Nat.{◌/◌, ◌≤◌, ◌<◌}
 use native.Mathlib.Omega.{arith}
 use lib.IntN.{pos}
@@ -12,13 +12,12 @@ use mir.Syntax.{w64}
 use mir.ValLaws.{to_z_pos}
 use Rattle.float.specs.Root.{root}
 use Rattle.float.specs.Conversions.{nearest_of}
-use Rattle.samples.specs.Means.{Sample, recording}
-use Rattle.orbit.specs.Residuals.{Residual, inputs_of, residual_of, mean_over, squared_deviation}
+use Rattle.samples.specs.Means.{recording}
+use Rattle.orbit.specs.Residuals.{inputs_of, residual_of, mean_over, squared_deviation}
 use Rattle.common.specs.Numbers.{minus_zero}
 use Rattle.samples.proofs.Recordings.{record_length}
 use Rattle.orbit.proofs.Trials.{mean_is, length_front, too_few, won, lost}
 use Rattle.common.specs.Sums.{sum_from}
-use borrow.Author.Rules.{rules}
 use Rattle.orbit.proofs.stages.try_shift.Goals as goal
 use Rattle.orbit.proofs.stages.try_shift.Goals.{After-collect_residuals-count, After-nearest-n, After-sqrt-rmse, After-sum_of, Else-count-samples, Start}
 

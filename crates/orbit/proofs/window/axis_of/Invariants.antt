@@ -1,13 +1,9 @@
 -- Below k the array holds the axis of the window. Assumes nothing.
-use mathlib.Core.Path.{◌≡◌, refl}
+use mathlib.Core.Path.{◌≡◌}
 use Prim.Native.Nat.{ℕ, ◌+◌, ◌-◌, ◌*◌, ◌≤◌, ◌<◌}
-use native.Mathlib.Omega.{arith}
-use lib.ListN.{length, get_or, length-set}
+use lib.ListN.{length, get_or}
 use lib.Ieee.{nan}
-use borrow.Author.Count.{below_none}
-use Rattle.common.proofs.Filled.{filled, filled_more}
 use Rattle.checks.specs.Limits.{axes}
-use borrow.Author.Rules.{rules}
 use Rattle.orbit.proofs.window.axis_of.Given as goal
 
 abbrev pub invariant-loop-k : goal.invariant-loop-k

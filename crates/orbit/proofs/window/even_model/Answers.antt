@@ -6,7 +6,6 @@ use Rattle.chebyshev.specs.Coefficients.{coefficients_by}
 use Rattle.chebyshev.proofs.IdealInverse.{ideal_not_refused}
 use Rattle.chebyshev.proofs.Columns.{inverted_told}
 use Rattle.orbit.proofs.Models.{made_is}
-use borrow.Author.Rules.{rules}
 use Rattle.orbit.proofs.window.even_model.Goals as goal
 
 pub returns : goal.returns

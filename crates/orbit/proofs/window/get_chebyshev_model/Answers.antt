@@ -2,15 +2,12 @@
 use mathlib.Core.Path.{sym, ap, ◌∙◌}
 use Prim.Native.Nat.{ℕ}
 use lib.Ieee.{of_bits}
-use Rattle.common.specs.Outcome.{Outcome}
 use Rattle.checks.specs.Checked.{Table}
 use Rattle.checks.specs.Entries.{first_failing, propagation_checks}
 use Rattle.checks.proofs.Checked.{propagation_table}
 use Rattle.common.proofs.Outcomes.{unless_refused_lem, unless_none}
-use Rattle.orbit.specs.declared.window.ChebyshevOrbit.{ChebyshevOrbit}
 use Rattle.orbit.specs.Window.{even_tolerance, model_at, model_about, model_answer}
 use native.Mathlib.Omega.{arith}
-use borrow.Author.Rules.{rules}
 use Rattle.orbit.proofs.window.get_chebyshev_model.Goals as goal
 use Rattle.orbit.proofs.window.get_chebyshev_model.Goals.{Else-refusal-ne0, Start}
 

@@ -1,15 +1,11 @@
 -- The gaps before k were wide, or else the rest decides; a wide gap settles it. Assumes nothing.
 use mathlib.Core.Path.{◌≡◌, refl, sym, ap, ◌∙◌}
-use mathlib.Core.Bool.{Bool, true, false, ◌||◌, or-true, or-false}
-use mathlib.Core.Logic.{⊎_elim}
-use Prim.Native.Nat.{◌+◌, ◌-◌, ◌≤◌}
+use mathlib.Core.Bool.{Bool, ◌||◌, or-true, or-false}
+use Prim.Native.Nat.{◌+◌}
 use native.Mathlib.Omega.{arith}
-use lib.ListN.{length}
 use lib.Ieee.{lt, of_bits}
-use Rattle.orbit.specs.Window.{first_time, last_time, uneven}
-use Rattle.common.specs.Numbers.{nine}
+use Rattle.orbit.specs.Window.{uneven}
 use Rattle.orbit.proofs.Models.{wide_from, wide_found, wide_passed, wide_end}
-use Rattle.common.specs.Rounded.{◌⊖◌, ◌⊘◌}
 use borrow.Author.Rules.{rules}
 use Rattle.orbit.proofs.window.is_uneven.Goals as goal
 use Rattle.orbit.proofs.window.is_uneven.Goals.{else-magnitude-tolerance, then-magnitude-tolerance}
@@ -26,13 +22,14 @@ loop-k-preserved c =
     let tested = c.magnitude.ensures in
     let rest = wide_from (at.k + 1) args.tolerance args.t in
     let next : c.if-magnitude-tolerance.uneven || rest ≡ uneven args.tolerance args.t =
-    (elim c.if-magnitude-tolerance.branch [ then-magnitude-tolerance w ↦ ap (λ (b : Bool). b || rest) w.uneven-is
-    ∙ sym (or-true at.uneven)
-    ∙ ap (λ (b : Bool). at.uneven || b) (sym (wide_found args.tolerance args.t at.k (omega arith) (ap (lt args.tolerance.0) (sym tested) ∙ w.if-magnitude-tolerance.true)))
-    ∙ at.invariant.3
-    | else-magnitude-tolerance w ↦ ap (λ (b : Bool). b || rest) w.uneven-is
-    ∙ ap (λ (b : Bool). at.uneven || b) (wide_passed args.tolerance args.t at.k (omega arith) (ap (lt args.tolerance.0) (sym tested) ∙ w.if-magnitude-tolerance.false))
-    ∙ at.invariant.3
+    (elim c.if-magnitude-tolerance.branch [
+      | then-magnitude-tolerance w ↦ ap (λ (b : Bool). b || rest) w.uneven-is
+          ∙ sym (or-true at.uneven)
+          ∙ ap (λ (b : Bool). at.uneven || b) (sym (wide_found args.tolerance args.t at.k (omega arith) (ap (lt args.tolerance.0) (sym tested) ∙ w.if-magnitude-tolerance.true)))
+          ∙ at.invariant.3
+      | else-magnitude-tolerance w ↦ ap (λ (b : Bool). b || rest) w.uneven-is
+          ∙ ap (λ (b : Bool). at.uneven || b) (wide_passed args.tolerance args.t at.k (omega arith) (ap (lt args.tolerance.0) (sym tested) ∙ w.if-magnitude-tolerance.false))
+          ∙ at.invariant.3
     ]) in
     (search rules, at.invariant.1, refl, next)
 

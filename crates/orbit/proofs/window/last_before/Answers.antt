@@ -1,6 +1,6 @@
 -- Each halving keeps the part that holds the last coordinate at or before the instant; a part of one is that coordinate. Assumes nothing.
 use mathlib.Core.Path.{◌≡◌, refl, sym, ap₂, ◌∙◌, subst}
-use mathlib.Core.Logic.{⊎_elim, inl}
+use mathlib.Core.Logic.{inl}
 use Prim.Native.Nat.{ℕ, ◌+◌, ◌-◌, ◌/◌, ◌≤◌, ◌<◌}
 use native.Mathlib.Omega.{arith}
 use lib.Signed.{le_z}
@@ -28,8 +28,9 @@ loop-size-preserved c =
     let middle = at-loop.base + size / 2 in
     let e : le_z (at ts middle) t ≡ le_z (back (at ts middle)) (back t) =
     sym (ap₂ le_z (to_z-of_z w64 (at ts middle) (record { sfits = c.t10-1.given })) (to_z-of_z w64 t (record { sfits = c.struct_told-1.given.0.1 }))) in
-    (elim c.if-instants-middle.branch [ then-instants-middle w ↦ subst (λ (b : ℕ). Halved ts t b (size - size / 2)) (sym w.base-is) (halved_up ts t at-loop.base size (omega arith) (e ∙ w.if-instants-middle.true) at-loop.invariant)
-    | else-instants-middle w ↦ subst (λ (b : ℕ). Halved ts t b (size - size / 2)) (sym w.base-is) (halved_down ts t at-loop.base size c.requires.1 (omega arith) (e ∙ w.if-instants-middle.false) at-loop.invariant)
+    (elim c.if-instants-middle.branch [
+      | then-instants-middle w ↦ subst (λ (b : ℕ). Halved ts t b (size - size / 2)) (sym w.base-is) (halved_up ts t at-loop.base size (omega arith) (e ∙ w.if-instants-middle.true) at-loop.invariant)
+      | else-instants-middle w ↦ subst (λ (b : ℕ). Halved ts t b (size - size / 2)) (sym w.base-is) (halved_down ts t at-loop.base size c.requires.1 (omega arith) (e ∙ w.if-instants-middle.false) at-loop.invariant)
     ])
 
 pub returns : goal.returns

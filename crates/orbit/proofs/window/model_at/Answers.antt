@@ -2,7 +2,6 @@
 use mathlib.Core.Path.{sym, ap, ◌∙◌}
 use Rattle.orbit.specs.Window.{model_answer}
 use Rattle.orbit.proofs.Models.{model_uneven, model_even}
-use borrow.Author.Rules.{rules}
 use Rattle.orbit.proofs.window.model_at.Goals as goal
 
 pub returns-then-is_uneven : goal.returns-then-is_uneven

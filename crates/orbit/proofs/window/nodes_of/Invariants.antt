@@ -1,15 +1,11 @@
 -- Below k the matrix holds a row for each time, by what the callees ensure. Assumes nothing.
-use mathlib.Core.Path.{◌≡◌, ap, ◌∙◌}
+use mathlib.Core.Path.{◌≡◌}
 use mathlib.Core.List.{[]}
 use Prim.Native.Nat.{ℕ, ◌-◌, ◌≤◌, ◌<◌}
-use native.Mathlib.Omega.{arith}
-use lib.ListN.{length, get_or, length-set}
+use lib.ListN.{length, get_or}
 use lib.Ieee.{nan}
-use borrow.Author.Count.{below_none}
-use Rattle.common.proofs.Filled.{filled, filled_more}
 use Rattle.chebyshev.specs.Recurrence.{rounded, polynomials}
 use Rattle.orbit.specs.Window.{tau_of}
-use borrow.Author.Rules.{rules}
 use Rattle.orbit.proofs.window.nodes_of.Given as goal
 
 abbrev pub invariant-loop-k : goal.invariant-loop-k

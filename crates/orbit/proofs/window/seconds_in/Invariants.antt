@@ -1,16 +1,10 @@
 -- Below k the array holds the times of the window. Assumes nothing.
-use mathlib.Core.Path.{◌≡◌, ap, ◌∙◌}
+use mathlib.Core.Path.{◌≡◌}
 use Prim.Native.Nat.{ℕ, ◌+◌, ◌-◌, ◌≤◌, ◌<◌}
-use native.Mathlib.Omega.{arith}
-use lib.ListN.{length, get_or, length-set}
+use lib.ListN.{length, get_or}
 use lib.Ieee.{nan}
 use lib.IntN.{pos}
-use mir.Syntax.{w64}
-use mir.ValLaws.{to_z-of_z}
-use borrow.Author.Count.{below_none}
-use Rattle.common.proofs.Filled.{filled, filled_more}
 use Rattle.orbit.specs.Window.{seconds_of}
-use borrow.Author.Rules.{rules}
 use Rattle.orbit.proofs.window.seconds_in.Given as goal
 
 abbrev pub invariant-loop-k : goal.invariant-loop-k

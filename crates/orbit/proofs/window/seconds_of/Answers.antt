@@ -6,7 +6,6 @@ use mir.ValLaws.{to_z-of_z}
 use Rattle.float.specs.Conversions.{nearest_of}
 use Rattle.common.specs.Numbers.{billionth}
 use Rattle.common.specs.Rounded.{◌⊗◌}
-use borrow.Author.Rules.{rules}
 use Rattle.orbit.proofs.window.seconds_of.Goals as goal
 
 pub returns : goal.returns

@@ -7,7 +7,6 @@ use lib.Dec.{ltb, leb}
 use Rattle.chebyshev.specs.Recurrence.{terms}
 use Rattle.orbit.specs.Window.{start_of}
 use borrow.Author.Tests.{ltb-true, ltb-false, leb-true, leb-false}
-use borrow.Author.Rules.{rules}
 use Rattle.orbit.proofs.window.start_of.Goals as goal
 
 -- the code's form and the definition's are equal, for every idx and every length of at least ten

@@ -6,7 +6,6 @@ use Rattle.chebyshev.specs.Coefficients.{coefficients_answer}
 use Rattle.orbit.specs.Window.{node_matrix, axis_of}
 use Rattle.chebyshev.proofs.Columns.{inverted_told}
 use Rattle.orbit.proofs.Models.{through, refused_is, through_is}
-use borrow.Author.Rules.{rules}
 use Rattle.orbit.proofs.window.uneven_model.Goals as goal
 use Rattle.orbit.proofs.window.uneven_model.Goals.{After-coefficients_through-c}
 

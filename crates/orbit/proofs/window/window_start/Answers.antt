@@ -3,7 +3,6 @@ use mathlib.Core.Path.{ap, ◌∙◌}
 use Prim.Native.Nat.{ℕ}
 use lib.ListN.{length}
 use Rattle.orbit.specs.Window.{start_of}
-use borrow.Author.Rules.{rules}
 use Rattle.orbit.proofs.window.window_start.Goals as goal
 
 pub returns : goal.returns

@@ -1,6 +1,5 @@
 -- Value and slope are the two fields of what the callee ensures. Assumes nothing.
 use mathlib.Core.Path.{ap}
-use borrow.Author.Rules.{rules}
 use Rattle.chebyshev.specs.declared.recurrence.Evaluation.{Evaluation}
 use Rattle.orbit_abi.proofs.chebyshev_entries.orbit_evaluate_chebyshev.Goals as goal
 

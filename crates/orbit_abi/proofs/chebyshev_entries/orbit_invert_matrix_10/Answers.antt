@@ -7,7 +7,6 @@ use Rattle.common.specs.Outcome.{Outcome, refused, answered, refusal_in, Told, a
 use Rattle.chebyshev.specs.declared.inverse.Inverse.{Inverse}
 use Rattle.chebyshev.specs.Inverse.{Row, Matrix, inverted, flat, answer_of}
 use Rattle.orbit_abi.specs.Areas.{rows_in}
-use borrow.Author.Rules.{rules}
 use Rattle.orbit_abi.proofs.chebyshev_entries.orbit_invert_matrix_10.Goals as goal
 
 refusal_is : (o : Outcome Matrix) (i : Inverse) → i ≡ answer_of o → i.refusal ≡ refusal_in o

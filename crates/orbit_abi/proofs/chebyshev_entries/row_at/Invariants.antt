@@ -1,12 +1,8 @@
 -- Below c the row holds the numbers from 10 r on. Assumes nothing.
-use mathlib.Core.Path.{◌≡◌, refl}
+use mathlib.Core.Path.{◌≡◌}
 use Prim.Native.Nat.{ℕ, ◌+◌, ◌-◌, ◌*◌, ◌≤◌, ◌<◌}
-use native.Mathlib.Omega.{arith}
-use lib.ListN.{length, get_or, length-set}
+use lib.ListN.{length, get_or}
 use lib.Ieee.{nan}
-use borrow.Author.Count.{below_none}
-use Rattle.common.proofs.Filled.{filled, filled_more}
-use borrow.Author.Rules.{rules}
 use Rattle.orbit_abi.proofs.chebyshev_entries.row_at.Given as goal
 
 abbrev pub invariant-loop-c : goal.invariant-loop-c

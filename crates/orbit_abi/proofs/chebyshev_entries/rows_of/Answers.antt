@@ -1,9 +1,7 @@
 -- Below r the matrix holds the rows of the area. Assumes nothing.
-use mathlib.Core.Path.{◌≡◌}
 use mathlib.Core.List.{[]}
-use Prim.Native.Nat.{ℕ, ◌-◌, ◌≤◌, ◌<◌}
 use native.Mathlib.Omega.{arith}
-use lib.ListN.{length, get_or, length-set}
+use lib.ListN.{length-set}
 use borrow.Author.Count.{below_none}
 use Rattle.orbit_abi.specs.Areas.{row_at}
 use Rattle.common.proofs.Filled.{filled, filled_more}

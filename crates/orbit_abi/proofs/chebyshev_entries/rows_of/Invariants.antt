@@ -2,12 +2,8 @@
 use mathlib.Core.Path.{◌≡◌}
 use mathlib.Core.List.{[]}
 use Prim.Native.Nat.{ℕ, ◌-◌, ◌≤◌, ◌<◌}
-use native.Mathlib.Omega.{arith}
-use lib.ListN.{length, get_or, length-set}
-use borrow.Author.Count.{below_none}
+use lib.ListN.{length, get_or}
 use Rattle.orbit_abi.specs.Areas.{row_at}
-use Rattle.common.proofs.Filled.{filled, filled_more}
-use borrow.Author.Rules.{rules}
 use Rattle.orbit_abi.proofs.chebyshev_entries.rows_of.Given as goal
 
 abbrev pub invariant-loop-r : goal.invariant-loop-r

@@ -3,7 +3,6 @@ use Rattle.orbit.specs.Fit.{fit_satellite, fit_in}
 use Rattle.orbit.specs.declared.fit.Report.{Report}
 use Rattle.orbit_abi.specs.Models.{inputs_in, report_numbers, fallback_number}
 use Rattle.orbit_abi.proofs.Outcomes.{given_as}
-use borrow.Author.Rules.{rules}
 use Rattle.orbit_abi.proofs.fit_entries.orbit_fit_satellite.Goals as goal
 
 pub returns : goal.returns

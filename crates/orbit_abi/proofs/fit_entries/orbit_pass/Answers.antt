@@ -4,7 +4,6 @@ use Rattle.orbit.specs.Passes.{pass}
 use Rattle.orbit.specs.declared.fit.Report.{Report}
 use Rattle.orbit_abi.specs.Models.{inputs_in, report_numbers, fallback_number}
 use Rattle.orbit_abi.proofs.Outcomes.{given_as}
-use borrow.Author.Rules.{rules}
 use Rattle.orbit_abi.proofs.fit_entries.orbit_pass.Goals as goal
 
 pub returns : goal.returns

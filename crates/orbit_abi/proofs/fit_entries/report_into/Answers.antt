@@ -8,7 +8,6 @@ use Rattle.orbit.specs.Fit.{fit_in}
 use Rattle.orbit.specs.declared.fit.Report.{Report}
 use Rattle.orbit_abi.specs.Models.{report_numbers, fallback_number}
 use Rattle.orbit_abi.proofs.Outcomes.{answered_as, refused_as}
-use borrow.Author.Rules.{rules}
 use Rattle.orbit_abi.proofs.fit_entries.report_into.Goals as goal
 
 -- a yes or no cast to a number

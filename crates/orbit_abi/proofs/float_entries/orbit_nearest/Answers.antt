@@ -3,7 +3,6 @@ use mathlib.Core.Path.{ap, ◌∙◌}
 use mir.Syntax.{w64}
 use mir.ValLaws.{to_z-of_z}
 use Rattle.float.specs.Conversions.{nearest_of}
-use borrow.Author.Rules.{rules}
 use Rattle.orbit_abi.proofs.float_entries.orbit_nearest.Goals as goal
 
 pub returns : goal.returns

@@ -1,6 +1,5 @@
 -- By the tests: each holds or fails as in the definition. Assumes nothing.
 use borrow.Author.Tests.{lt-ltb, le-ltb}
-use borrow.Author.Rules.{rules}
 use Rattle.orbit_abi.proofs.orbit_entries.model_number.Goals as goal
 
 pub returns-then-k-lt1 : goal.returns-then-k-lt1

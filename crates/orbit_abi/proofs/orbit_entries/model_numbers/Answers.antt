@@ -1,8 +1,6 @@
 -- Below k the numbers are those of the model. Assumes nothing.
-use mathlib.Core.Path.{◌≡◌}
-use Prim.Native.Nat.{ℕ, ◌-◌, ◌≤◌, ◌<◌}
 use native.Mathlib.Omega.{arith}
-use lib.ListN.{length, get_or, length-set}
+use lib.ListN.{length-set}
 use lib.Ieee.{nan}
 use borrow.Author.Count.{below_none}
 use Rattle.common.proofs.Filled.{filled, filled_more}

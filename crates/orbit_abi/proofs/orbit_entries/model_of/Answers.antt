@@ -1,5 +1,4 @@
 -- The end times are the first two numbers, and each row is what its own function ensures. Assumes nothing.
-use borrow.Author.Rules.{rules}
 use Rattle.orbit_abi.proofs.orbit_entries.model_of.Goals as goal
 
 pub returns : goal.returns

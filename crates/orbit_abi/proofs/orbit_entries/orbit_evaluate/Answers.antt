@@ -1,11 +1,9 @@
 -- By the entry's answer: the motion of the model with these numbers goes into the area, and a refusal leaves it. Assumes nothing.
 use mathlib.Core.Path.{◌≡◌, sym, ap, ◌∙◌}
-use Rattle.common.specs.Outcome.{Outcome}
 use Rattle.orbit.specs.declared.window.ChebyshevOrbit.{ChebyshevOrbit}
-use Rattle.orbit.specs.Propagation.{Motion, motion_in, evaluate}
+use Rattle.orbit.specs.Propagation.{motion_in, evaluate}
 use Rattle.orbit_abi.specs.Models.{model_in, motion_numbers}
 use Rattle.orbit_abi.proofs.Outcomes.{answered_as, refused_as}
-use borrow.Author.Rules.{rules}
 use Rattle.orbit_abi.proofs.orbit_entries.orbit_evaluate.Goals as goal
 use Rattle.orbit_abi.proofs.orbit_entries.orbit_evaluate.Goals.{After-evaluate-evaluation, Start}
 

@@ -3,12 +3,10 @@ use mathlib.Core.Path.{sym, ap, ◌∙◌}
 use lib.IntN.{ℤ}
 use mir.Syntax.{w64}
 use mir.ValLaws.{to_z-of_z}
-use Rattle.common.specs.Outcome.{Outcome}
 use Rattle.orbit.specs.Place.{Located}
 use Rattle.orbit.specs.Closest.{closest_in, find_pca_time}
 use Rattle.orbit_abi.specs.Models.{place_number, observer_of}
 use Rattle.orbit_abi.proofs.Outcomes.{answered_as, refused_as}
-use borrow.Author.Rules.{rules}
 use Rattle.orbit_abi.proofs.orbit_entries.orbit_find_pca_time.Goals as goal
 use Rattle.orbit_abi.proofs.orbit_entries.orbit_find_pca_time.Goals.{Start}
 

@@ -4,7 +4,6 @@ use Rattle.orbit.specs.Window.{even_tolerance, window_start, window_seconds, inv
 use Rattle.orbit_abi.specs.Models.{model_numbers}
 use Rattle.orbit.proofs.Models.{inversion_told}
 use Rattle.orbit_abi.proofs.Outcomes.{model_answered, model_refused}
-use borrow.Author.Rules.{rules}
 use Rattle.orbit_abi.proofs.orbit_entries.orbit_get_chebyshev_model.Goals as goal
 
 pub returns-then-refusal-eq0 : goal.returns-then-refusal-eq0

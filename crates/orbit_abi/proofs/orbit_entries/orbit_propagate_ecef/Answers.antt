@@ -1,11 +1,9 @@
 -- By the entry's answer: motion and place go into their areas, and a refusal leaves both. Assumes nothing.
 use mathlib.Core.Path.{sym, ap, ◌∙◌}
-use Rattle.common.specs.Outcome.{Outcome}
 use Rattle.orbit.specs.Place.{Located}
 use Rattle.orbit.specs.Propagation.{Motion, propagation_in, propagate_ecef}
 use Rattle.orbit_abi.specs.Models.{motion_numbers, place_number}
 use Rattle.orbit_abi.proofs.Outcomes.{answered_as, refused_as}
-use borrow.Author.Rules.{rules}
 use Rattle.orbit_abi.proofs.orbit_entries.orbit_propagate_ecef.Goals as goal
 use Rattle.orbit_abi.proofs.orbit_entries.orbit_propagate_ecef.Goals.{Start}
 

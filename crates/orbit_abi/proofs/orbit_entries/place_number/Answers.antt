@@ -1,7 +1,6 @@
 -- By the case of the place. Assumes nothing.
 use mathlib.Core.Path.{sym, ap}
 use Rattle.orbit_abi.specs.Models.{place_number}
-use borrow.Author.Rules.{rules}
 use Rattle.orbit_abi.proofs.orbit_entries.place_number.Goals as goal
 
 pub returns-in-Before : goal.returns-in-Before

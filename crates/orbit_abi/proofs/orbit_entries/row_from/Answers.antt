@@ -1,8 +1,8 @@
 -- Below k the row holds the numbers from the first on. Assumes nothing.
-use mathlib.Core.Path.{◌≡◌, refl}
-use Prim.Native.Nat.{ℕ, ◌+◌, ◌-◌, ◌≤◌, ◌<◌}
+use mathlib.Core.Path.{refl}
+use Prim.Native.Nat.{◌+◌}
 use native.Mathlib.Omega.{arith}
-use lib.ListN.{length, get_or, length-set}
+use lib.ListN.{get_or, length-set}
 use lib.Ieee.{nan}
 use borrow.Author.Count.{below_none}
 use Rattle.common.proofs.Filled.{filled, filled_more}

@@ -1,12 +1,8 @@
 -- Below k the row holds the numbers from the first on. Assumes nothing.
-use mathlib.Core.Path.{◌≡◌, refl}
+use mathlib.Core.Path.{◌≡◌}
 use Prim.Native.Nat.{ℕ, ◌+◌, ◌-◌, ◌≤◌, ◌<◌}
-use native.Mathlib.Omega.{arith}
-use lib.ListN.{length, get_or, length-set}
+use lib.ListN.{length, get_or}
 use lib.Ieee.{nan}
-use borrow.Author.Count.{below_none}
-use Rattle.common.proofs.Filled.{filled, filled_more}
-use borrow.Author.Rules.{rules}
 use Rattle.orbit_abi.proofs.orbit_entries.row_from.Given as goal
 
 abbrev pub invariant-loop-k : goal.invariant-loop-k

@@ -3,7 +3,6 @@ use mathlib.Core.Path.{refl, sym, ap, ◌∙◌}
 use Prim.Native.Nat.{ℕ}
 use Rattle.samples.specs.Means.{downsampled_in, downsample_data}
 use Rattle.orbit_abi.proofs.Outcomes.{answered_as, refused_as}
-use borrow.Author.Rules.{rules}
 use Rattle.orbit_abi.proofs.samples_entries.orbit_downsample_data.Goals as goal
 
 pub returns-in-Count : goal.returns-in-Count

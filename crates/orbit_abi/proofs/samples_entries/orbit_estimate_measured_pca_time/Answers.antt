@@ -5,9 +5,7 @@ use mir.Syntax.{w64}
 use mir.ValLaws.{to_z-of_z}
 use Rattle.samples.specs.Approach.{approach_in, estimate_measured_pca_time}
 use Rattle.orbit_abi.proofs.Outcomes.{answered_as, refused_as}
-use borrow.Author.Rules.{rules}
 use Rattle.orbit_abi.proofs.samples_entries.orbit_estimate_measured_pca_time.Goals as goal
-
 
 pub returns-in-At : goal.returns-in-At
 returns-in-At c =

@@ -3,7 +3,6 @@ use mathlib.Core.Path.{refl, sym, ap, ◌∙◌}
 use lib.Ieee.{Float}
 use Rattle.samples.specs.Approach.{slope_in, steepest_slope}
 use Rattle.orbit_abi.proofs.Outcomes.{answered_as, refused_as}
-use borrow.Author.Rules.{rules}
 use Rattle.orbit_abi.proofs.samples_entries.orbit_steepest_slope.Goals as goal
 
 pub returns-in-Steepest : goal.returns-in-Steepest

@@ -3,7 +3,6 @@ use mathlib.Core.Path.{refl, sym, ap, ◌∙◌}
 use Prim.Native.Nat.{ℕ}
 use Rattle.sp3.specs.Entries.{sp3_in, read_sp3}
 use Rattle.orbit_abi.proofs.Outcomes.{answered_as, refused_as}
-use borrow.Author.Rules.{rules}
 use Rattle.orbit_abi.proofs.sp3_entries.orbit_read_sp3.Goals as goal
 
 pub returns-in-Count : goal.returns-in-Count

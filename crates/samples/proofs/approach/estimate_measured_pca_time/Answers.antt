@@ -1,6 +1,5 @@
 -- The checks refuse as the definition does; where they pass, the instants are near 1970, the search is the definition's, and its middle is a sample.
 -- Assumes nothing.
-use borrow.Author.Rules.{rules}
 use mathlib.Core.Path.{ap, sym, ◌∙◌}
 use mathlib.Core.Bool.{true, false}
 use lib.IntN.{ℤ, pos}

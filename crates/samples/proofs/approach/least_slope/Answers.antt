@@ -1,13 +1,13 @@
 -- The search from sample i on, with the best so far, ends where the whole search does; the best's middle is a sample. Assumes nothing.
 use borrow.Author.Rules.{rules}
-use mathlib.Core.Path.{◌≡◌, sym, ap, ◌∙◌, subst}
-use Prim.Native.Nat.{◌+◌, ◌-◌, ◌<◌, ◌≤◌}
+use mathlib.Core.Path.{sym, ap, ◌∙◌, subst}
+use Prim.Native.Nat.{◌+◌, ◌-◌, ◌<◌}
 use native.Mathlib.Omega.{arith}
 use lib.ListN.{length}
 use lib.Ieee.{of_bits}
 use Rattle.common.proofs.Search.{search_step, search_end}
 use Rattle.samples.specs.declared.approach.LeastSlope.{LeastSlope}
-use Rattle.samples.specs.Approach.{sloped, steeper, least_slope}
+use Rattle.samples.specs.Approach.{sloped, steeper}
 use Rattle.samples.proofs.Slopes.{rest, rest_start, short, middle_in}
 use Rattle.samples.proofs.approach.least_slope.Goals as goal
 

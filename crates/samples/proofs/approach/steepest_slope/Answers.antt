@@ -1,5 +1,4 @@
 -- The checks refuse as the definition does; where they pass, the instants are near 1970 and the search is the definition's. Assumes nothing.
-use borrow.Author.Rules.{rules}
 use mathlib.Core.Path.{ap, sym, ◌∙◌}
 use lib.Ieee.{of_bits, neg}
 use Rattle.common.specs.Outcome.{answered}

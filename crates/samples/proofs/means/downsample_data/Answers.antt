@@ -1,5 +1,4 @@
 -- The refusal by the checks, or, where none fails, the means as they are written. Assumes nothing.
-use borrow.Author.Rules.{rules}
 use mathlib.Core.Path.{sym, ap, ◌∙◌}
 use lib.ListN.{length}
 use Rattle.common.specs.Outcome.{answered}

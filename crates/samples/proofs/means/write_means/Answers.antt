@@ -1,5 +1,4 @@
 -- By the scan: run by run where the seconds never fall, by a sorted copy otherwise, which is short where there are few samples. Assumes nothing.
-use borrow.Author.Rules.{rules}
 use Rattle.samples.proofs.means.write_means.Goals as goal
 
 pub write_runs-requires : goal.write_runs-requires

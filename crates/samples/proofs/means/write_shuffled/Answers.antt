@@ -1,5 +1,4 @@
 -- The arrays have room for any recording that passes check 2. Assumes nothing.
-use borrow.Author.Rules.{rules}
 use Rattle.samples.proofs.means.write_shuffled.Goals as goal
 
 pub write_sorted-requires : goal.write_sorted-requires

@@ -6,7 +6,6 @@ use lib.ListN.{length, take}
 use Rattle.common.specs.Outcome.{written}
 use Rattle.samples.specs.Means.{Sample, instants, frequencies}
 use Rattle.samples.proofs.Copies.{copied, copy_limited, Sorted, sorted_copy}
-use borrow.Author.Rules.{rules}
 use Rattle.samples.proofs.means.write_sorted.Goals as goal
 use Rattle.samples.proofs.means.write_sorted.Goals.{After-sort_by_seconds, After-sort_by_seconds-arg-4-1}
 

@@ -1,5 +1,4 @@
 -- An instant not before another lies in no earlier second. Assumes nothing.
-use borrow.Author.Rules.{rules}
 use mathlib.Core.Path.{◌≡◌, ap, ◌∙◌}
 use mathlib.Core.Bool.{true, false}
 use lib.Dec.{T}

@@ -1,15 +1,11 @@
 -- Up to where the next run begins each second has its mean in its place. Assumes nothing.
-use borrow.Author.Rules.{rules}
-use mathlib.Core.Path.{◌≡◌, refl, ◌∙◌}
-use Prim.Native.Nat.{◌-◌, ◌≤◌, ◌<◌}
-use native.Mathlib.Omega.{arith}
+use mathlib.Core.Path.{◌≡◌}
+use Prim.Native.Nat.{◌-◌, ◌≤◌}
 use lib.ListN.{length}
 use Rattle.samples.specs.Means.{seconds, recording}
 use Rattle.samples.specs.Sums.{instants_of_means, frequencies_of_means}
-use Rattle.samples.specs.Runs.{second_at}
-use Rattle.samples.proofs.RunsOfSeconds.{Stands, stands_first, stands_next}
+use Rattle.samples.proofs.RunsOfSeconds.{Stands}
 use Rattle.samples.proofs.Areas.{filled}
-use Rattle.samples.proofs.Filling.{many, places, filling_more, filling_all}
 use Rattle.samples.proofs.runs.write_runs.Given as goal
 
 abbrev pub invariant-loop-from : goal.invariant-loop-from

@@ -1,5 +1,4 @@
 -- The magnitude is the slope's, and the test of it the definition's, so each branch is the definition's. Assumes nothing.
-use borrow.Author.Rules.{rules}
 use mathlib.Core.Path.{sym, ap, ◌∙◌}
 use mathlib.Core.Bool.{Bool, cond}
 use lib.Ieee.{Float, binary64, mul, div, lt, of_bits}

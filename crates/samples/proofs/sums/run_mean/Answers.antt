@@ -1,5 +1,4 @@
 -- The sum over the count, and what is made of it, stay within a second of the first sample's instant, so nothing overflows; by the sums it is the samples' mean. Assumes nothing.
-use borrow.Author.Rules.{rules}
 use mathlib.Core.Path.{◌≡◌, sym, ap, ap₂, ◌∙◌, subst}
 use mathlib.Core.List.{List}
 use native.Mathlib.Omega.{arith}

@@ -1,5 +1,4 @@
 -- The start is at most a second before the instant, so it fits. Assumes nothing.
-use borrow.Author.Rules.{rules}
 use mathlib.Core.Path.{◌≡◌, sym, ap, ◌∙◌, subst}
 use lib.IntN.{ℤ, pos, ◌*ℤ◌}
 use mir.Syntax.{w64}
