@@ -1,0 +1,2 @@
+-- The theorem that the definitions meet the case table.
+pub mod Table
