@@ -23,7 +23,7 @@ pub returns-then-b-gt57 : goal.returns-then-b-gt57
 returns-then-b-gt57 c =
     let l = c.loop-i in
     let a = c.args in
-    digit_above a.text.now l.i a.before.negative l.n (omega arith) c.if-b-gt57.true ∙ l.invariant.2
+    digit_above a.text.now l.i a.before.negative l.n (omega arith) (omega (arith, c.if-b-gt57.true)) ∙ l.invariant.2
 
 pub overflow_mul-n : goal.overflow_mul-n
 overflow_mul-n c = omega (arith, (let it : c.loop-i.n < 100000000000000000 = let l = c.loop-i in lt_of_lt_of_le l.invariant.1 (ten_mono l.i 17 (omega (arith, c.requires.1))) in it))
