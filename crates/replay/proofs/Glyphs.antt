@@ -1,22 +1,22 @@
 -- The bytes of the sixteen digits: 48 to 57 and 97 to 102, each of one digit. Assumes nothing.
 use Rattle.std.proofs.Common.{◌≡◌, ℕ, ◌+◌, ◌<◌, ◌≤◌, Bool, true, false, ltb, ◌⊎◌, refl, inl, inr, ⊎_elim, arith, ltb-false, ltb-true, le-ltb, lt-ltb}
-use Rattle.io.specs.Digits.{hex_digit_ascii}
+use Rattle.std.specs.Char.{digit_char}
 
-pub low : (d : ℕ) → d < 10 → hex_digit_ascii d ≡ 48 + d
+pub low : (d : ℕ) → d < 10 → digit_char d ≡ 48 + d
 low d h = simp (lt-ltb d 10 h)
 
-pub high : (d : ℕ) → 10 ≤ d → hex_digit_ascii d ≡ 87 + d
+pub high : (d : ℕ) → 10 ≤ d → digit_char d ≡ 87 + d
 high d h = simp (le-ltb d 10 h)
 
 -- what `digit_of` promises of a byte and its answer
 abbrev pub Reads : ℕ → ℕ → Type 0
-Reads byte r = (r < 16 → hex_digit_ascii r ≡ byte) × ((d : ℕ) → d < 16 → hex_digit_ascii d ≡ byte → r ≡ d)
+Reads byte r = (r < 16 → digit_char r ≡ byte) × ((d : ℕ) → d < 16 → digit_char d ≡ byte → r ≡ d)
 
 -- a digit is below ten or not, and its byte is known in either case
-cases : (d : ℕ) → ((d < 10) × (hex_digit_ascii d ≡ 48 + d)) ⊎ ((10 ≤ d) × (hex_digit_ascii d ≡ 87 + d))
+cases : (d : ℕ) → ((d < 10) × (digit_char d ≡ 48 + d)) ⊎ ((10 ≤ d) × (digit_char d ≡ 87 + d))
 cases d = go (ltb d 10) refl
   where
-    go : (b : Bool) → ltb d 10 ≡ b → ((d < 10) × (hex_digit_ascii d ≡ 48 + d)) ⊎ ((10 ≤ d) × (hex_digit_ascii d ≡ 87 + d))
+    go : (b : Bool) → ltb d 10 ≡ b → ((d < 10) × (digit_char d ≡ 48 + d)) ⊎ ((10 ≤ d) × (digit_char d ≡ 87 + d))
     go true e = let h = ltb-true d 10 e in inl (h, low d h)
     go false e = let h = ltb-false d 10 e in inr (h, high d h)
 

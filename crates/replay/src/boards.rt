@@ -6,6 +6,8 @@ use crate::numbers::unsigned;
 use crate::printer::{print_double, print_refusal};
 use crate::words::{Case, Doubles, Wholes, ten_doubles, whole_at};
 use board::{BoardAnswer, Entry, MOST_ENTRIES};
+use std::io;
+use std::io::Write;
 use units::{Hertz, Nanoseconds, Seconds};
 
 // How many words an entry has.
@@ -61,27 +63,32 @@ fn board_of(entries: [Entry; ROOM_FOR_ENTRIES], n: usize) -> BoardAnswer
 }
 
 // `fleet_board ENTRIES`: the refusal alone, or 0 and the board's clock offset.
-pub(crate) fn fleet_board(case: Case, wholes: &Wholes, doubles: &Doubles) -> bool {
+pub(crate) fn fleet_board(
+    out: &mut impl Write,
+    case: Case,
+    wholes: &Wholes,
+    doubles: &Doubles,
+) -> io::Result<bool> {
     if case.after_one != 0 {
-        return false;
+        return Ok(false);
     }
     let words = unsigned(whole_at(wholes, 0, 0)) as usize;
     if words % ENTRY_WORDS != 0 {
-        return false;
+        return Ok(false);
     }
     let n = words / ENTRY_WORDS;
     if n > ROOM_FOR_ENTRIES {
-        return false;
+        return Ok(false);
     }
     if !satellites_fit(wholes, n) {
-        return false;
+        return Ok(false);
     }
     match board_of(entries_of(wholes, doubles), n) {
-        BoardAnswer::Refused(refusal) => print_refusal(refusal),
+        BoardAnswer::Refused(refusal) => print_refusal(out, refusal)?,
         BoardAnswer::Offset(offset) => {
-            print_refusal(0);
-            print_double(offset.0);
+            print_refusal(out, 0)?;
+            print_double(out, offset.0)?;
         }
     }
-    true
+    Ok(true)
 }

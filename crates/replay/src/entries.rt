@@ -7,11 +7,12 @@ use crate::printer::{print_double, print_doubles, print_refusal, print_wholes, p
 use crate::words::{
     Case, Doubles, FILE, Wholes, bytes_of, doubles_in, observer, ten_doubles, whole_at, wholes_in,
 };
-use check::same;
 use checks::MOST_SAMPLES;
 use orbit::{ChebyshevOrbit, ClosestApproach, FitAnswer, MotionAnswer, Place, Propagation};
 use samples::{Approach, Downsampled, Slope};
 use sp3::Sp3Read;
+use std::io;
+use std::io::Write;
 use units::{Hertz, LeapSeconds, Nanoseconds, Position, Seconds, Velocity};
 
 // How many elements an area may have: one for each sample of the longest recording, and a few behind them. The stored files have fewer positions.
@@ -27,7 +28,7 @@ pub(crate) fn number_of(name: &[u8]) -> usize {
     let mut i = 0;
     while i < names.len() {
         if names[i] == b' ' {
-            if same(name, &names[from..i]) {
+            if name == &names[from..i] {
                 return number;
             }
             number += 1;
@@ -39,40 +40,49 @@ pub(crate) fn number_of(name: &[u8]) -> usize {
 }
 
 // Has the entry of this number answer, and says whether the words were a case of it.
-pub(crate) fn answer(number: usize, case: Case, wholes: &Wholes, doubles: &Doubles) -> bool {
+pub(crate) fn answer(
+    out: &mut impl Write,
+    number: usize,
+    case: Case,
+    wholes: &Wholes,
+    doubles: &Doubles,
+) -> io::Result<bool> {
     match number {
         0 => {
-            print_double(float::sqrt(doubles[0]));
-            case.count == 1
+            print_double(out, float::sqrt(doubles[0]))?;
+            Ok(case.count == 1)
         }
         1 => {
-            print_double(float::nearest(wholes[0]));
-            case.count == 1
+            print_double(out, float::nearest(wholes[0]))?;
+            Ok(case.count == 1)
         }
         2 => {
-            print_word(unsigned(float::truncated(doubles[0])));
-            case.count == 1
+            print_word(out, unsigned(float::truncated(doubles[0])))?;
+            Ok(case.count == 1)
         }
         3 => {
             let sums = chebyshev::evaluate_chebyshev(ten_doubles(doubles, 0), doubles[10]);
-            print_double(sums.value);
-            print_double(sums.slope);
-            case.count == 11
+            print_double(out, sums.value)?;
+            print_double(out, sums.slope)?;
+            Ok(case.count == 11)
         }
-        4 => invert_matrix_10(case, doubles),
-        5 => get_chebyshev_model(case, wholes, doubles),
-        6 => propagate_ecef(case, wholes, doubles),
-        7 => evaluate(case, wholes, doubles),
-        8 => find_pca_time(case, wholes, doubles),
-        10 => estimate_measured_pca_time(case, wholes, doubles),
-        11 => steepest_slope(case, wholes, doubles),
+        4 => invert_matrix_10(out, case, doubles),
+        5 => get_chebyshev_model(out, case, wholes, doubles),
+        6 => propagate_ecef(out, case, wholes, doubles),
+        7 => evaluate(out, case, wholes, doubles),
+        8 => find_pca_time(out, case, wholes, doubles),
+        10 => estimate_measured_pca_time(out, case, wholes, doubles),
+        11 => steepest_slope(out, case, wholes, doubles),
         12 => {
-            print_double(samples::estimate_slant_range(Hertz(doubles[0]), doubles[1]).0);
-            case.count == 2
+            print_double(
+                out,
+                samples::estimate_slant_range(Hertz(doubles[0]), doubles[1]).0,
+            )?;
+            Ok(case.count == 2)
         }
-        13 => fit_satellite(case, wholes, doubles),
-        16 => fleet_board(case, wholes, doubles),
-        _ => answer_with_areas(number, case, wholes, doubles),
+        13 => fit_satellite(out, case, wholes, doubles),
+        16 => fleet_board(out, case, wholes, doubles),
+        _ => answer_with_areas(out, number, case, wholes, doubles),
     }
 }
 
@@ -85,32 +95,38 @@ fn area_length(case: Case, wholes: &Wholes, back: usize) -> usize {
 }
 
 // Has an entry answer that fills two areas, and puts these, whole. Their lengths are the last two words of the case, and before the call they hold markers.
-fn answer_with_areas(number: usize, case: Case, wholes: &Wholes, doubles: &Doubles) -> bool {
+fn answer_with_areas(
+    out: &mut impl Write,
+    number: usize,
+    case: Case,
+    wholes: &Wholes,
+    doubles: &Doubles,
+) -> io::Result<bool> {
     let mut instants = [0x1111_1111_1111_1111i64; AREA];
     let mut frequencies = [double(0x4444_4444_4444_4444); AREA];
     let m = area_length(case, wholes, 2);
     let n = area_length(case, wholes, 1);
     if m > AREA {
-        return false;
+        return Ok(false);
     }
     if n > AREA {
-        return false;
+        return Ok(false);
     }
     let instant_area = &mut instants[0..m];
     let frequency_area = &mut frequencies[0..n];
     let is_case = match number {
-        9 => downsample_data(case, wholes, doubles, instant_area, frequency_area),
-        14 => pass(case, wholes, doubles, instant_area, frequency_area),
-        15 => read_sp3(case, wholes, instant_area, frequency_area),
-        _ => return false,
+        9 => downsample_data(out, case, wholes, doubles, instant_area, frequency_area)?,
+        14 => pass(out, case, wholes, doubles, instant_area, frequency_area)?,
+        15 => read_sp3(out, case, wholes, instant_area, frequency_area)?,
+        _ => return Ok(false),
     };
-    print_wholes(instant_area);
-    print_doubles(frequency_area);
-    is_case
+    print_wholes(out, instant_area)?;
+    print_doubles(out, frequency_area)?;
+    Ok(is_case)
 }
 
 // `invert_matrix_10 A00..A99`: the refusal alone, or 0 and the hundred cells of the inverse.
-fn invert_matrix_10(case: Case, doubles: &Doubles) -> bool {
+fn invert_matrix_10(out: &mut impl Write, case: Case, doubles: &Doubles) -> io::Result<bool> {
     let inverse = chebyshev::invert_matrix_10([
         ten_doubles(doubles, 0),
         ten_doubles(doubles, 10),
@@ -123,73 +139,88 @@ fn invert_matrix_10(case: Case, doubles: &Doubles) -> bool {
         ten_doubles(doubles, 80),
         ten_doubles(doubles, 90),
     ]);
-    print_refusal(inverse.refusal);
+    print_refusal(out, inverse.refusal)?;
     if inverse.refusal == 0 {
         let numbers = inverse.numbers;
-        print_doubles(&numbers);
+        print_doubles(out, &numbers)?;
     }
-    case.count == 100
+    Ok(case.count == 100)
 }
 
 // Puts a model: its end times and the coefficients of each axis.
-fn print_orbit(orbit: ChebyshevOrbit) {
+fn print_orbit(out: &mut impl Write, orbit: ChebyshevOrbit) -> io::Result<()> {
     let cx = orbit.cx;
     let cy = orbit.cy;
     let cz = orbit.cz;
-    print_doubles(&[orbit.t0.0, orbit.t9.0]);
-    print_doubles(&cx);
-    print_doubles(&cy);
-    print_doubles(&cz);
+    print_doubles(out, &[orbit.t0.0, orbit.t9.0])?;
+    print_doubles(out, &cx)?;
+    print_doubles(out, &cy)?;
+    print_doubles(out, &cz)
 }
 
 // `get_chebyshev_model INSTANTS POSITIONS INSTANT`: the refusal alone, or 0 and the model: its end times and the coefficients of each axis.
-fn get_chebyshev_model(case: Case, wholes: &Wholes, doubles: &Doubles) -> bool {
+fn get_chebyshev_model(
+    out: &mut impl Write,
+    case: Case,
+    wholes: &Wholes,
+    doubles: &Doubles,
+) -> io::Result<bool> {
     let model = orbit::get_chebyshev_model(
         wholes_in(wholes, 0, case.first),
         doubles_in(doubles, case.first, case.second),
         Nanoseconds(whole_at(wholes, case.second, 0)),
     );
-    print_refusal(model.refusal);
+    print_refusal(out, model.refusal)?;
     if model.refusal == 0 {
-        print_orbit(model.orbit);
+        print_orbit(out, model.orbit)?;
     }
-    case.after_two == 1
+    Ok(case.after_two == 1)
 }
 
 // Puts 0 with the position and the velocity.
-fn print_motion(p: Position, v: Velocity) {
-    print_refusal(0);
-    print_doubles(&[p.x, p.y, p.z, v.x, v.y, v.z]);
+fn print_motion(out: &mut impl Write, p: Position, v: Velocity) -> io::Result<()> {
+    print_refusal(out, 0)?;
+    print_doubles(out, &[p.x, p.y, p.z, v.x, v.y, v.z])
 }
 
 // Puts where an instant lies: 0 before the first coordinate, 1 from the first to the last, 2 after the last.
-fn print_place(place: Place) {
+fn print_place(out: &mut impl Write, place: Place) -> io::Result<()> {
     match place {
-        Place::Before => print_word(0),
-        Place::Within => print_word(1),
-        Place::After => print_word(2),
+        Place::Before => print_word(out, 0),
+        Place::Within => print_word(out, 1),
+        Place::After => print_word(out, 2),
     }
 }
 
 // `propagate_ecef INSTANTS POSITIONS INSTANT`: the refusal alone, or 0 with the position, the velocity and the place.
-fn propagate_ecef(case: Case, wholes: &Wholes, doubles: &Doubles) -> bool {
+fn propagate_ecef(
+    out: &mut impl Write,
+    case: Case,
+    wholes: &Wholes,
+    doubles: &Doubles,
+) -> io::Result<bool> {
     let propagation = orbit::propagate_ecef(
         wholes_in(wholes, 0, case.first),
         doubles_in(doubles, case.first, case.second),
         Nanoseconds(whole_at(wholes, case.second, 0)),
     );
     match propagation {
-        Propagation::Refused(refusal) => print_refusal(refusal),
+        Propagation::Refused(refusal) => print_refusal(out, refusal)?,
         Propagation::At(p, v, place) => {
-            print_motion(p, v);
-            print_place(place);
+            print_motion(out, p, v)?;
+            print_place(out, place)?;
         }
     }
-    case.after_two == 1
+    Ok(case.after_two == 1)
 }
 
 // `evaluate T0 T9 CX CY CZ INSTANT`: the refusal alone, or 0 with the position and the velocity.
-fn evaluate(case: Case, wholes: &Wholes, doubles: &Doubles) -> bool {
+fn evaluate(
+    out: &mut impl Write,
+    case: Case,
+    wholes: &Wholes,
+    doubles: &Doubles,
+) -> io::Result<bool> {
     let orbit = ChebyshevOrbit {
         t0: Seconds(doubles[0]),
         t9: Seconds(doubles[1]),
@@ -199,14 +230,19 @@ fn evaluate(case: Case, wholes: &Wholes, doubles: &Doubles) -> bool {
     };
     let evaluation = orbit::evaluate(orbit, Nanoseconds(wholes[32]));
     match evaluation {
-        MotionAnswer::Refused(refusal) => print_refusal(refusal),
-        MotionAnswer::At(p, v) => print_motion(p, v),
+        MotionAnswer::Refused(refusal) => print_refusal(out, refusal)?,
+        MotionAnswer::At(p, v) => print_motion(out, p, v)?,
     }
-    case.count == 33
+    Ok(case.count == 33)
 }
 
 // `find_pca_time INSTANTS POSITIONS OX OY OZ INSTANT`: the refusal alone, or 0, the instant and its place.
-fn find_pca_time(case: Case, wholes: &Wholes, doubles: &Doubles) -> bool {
+fn find_pca_time(
+    out: &mut impl Write,
+    case: Case,
+    wholes: &Wholes,
+    doubles: &Doubles,
+) -> io::Result<bool> {
     let closest = orbit::find_pca_time(
         wholes_in(wholes, 0, case.first),
         doubles_in(doubles, case.first, case.second),
@@ -214,24 +250,25 @@ fn find_pca_time(case: Case, wholes: &Wholes, doubles: &Doubles) -> bool {
         Nanoseconds(whole_at(wholes, case.second, 3)),
     );
     match closest {
-        ClosestApproach::Refused(refusal) => print_refusal(refusal),
+        ClosestApproach::Refused(refusal) => print_refusal(out, refusal)?,
         ClosestApproach::At(t, place) => {
-            print_refusal(0);
-            print_word(unsigned(t.0));
-            print_place(place);
+            print_refusal(out, 0)?;
+            print_word(out, unsigned(t.0))?;
+            print_place(out, place)?;
         }
     }
-    case.after_two == 4
+    Ok(case.after_two == 4)
 }
 
 // `downsample_data INSTANTS FREQUENCIES LENGTH LENGTH`: the refusal, or 0 and the count; the areas follow.
 fn downsample_data(
+    out: &mut impl Write,
     case: Case,
     wholes: &Wholes,
     doubles: &Doubles,
     instant_area: &mut [i64],
     frequency_area: &mut [f64],
-) -> bool {
+) -> io::Result<bool> {
     let means = samples::downsample_data(
         wholes_in(wholes, 0, case.first),
         doubles_in(doubles, case.first, case.second),
@@ -239,101 +276,126 @@ fn downsample_data(
         frequency_area,
     );
     match means {
-        Downsampled::Refused(refusal) => print_refusal(refusal),
+        Downsampled::Refused(refusal) => print_refusal(out, refusal)?,
         Downsampled::Count(count) => {
-            print_refusal(0);
-            print_word(count as u64);
+            print_refusal(out, 0)?;
+            print_word(out, count as u64)?;
         }
     }
-    case.after_two == 2
+    Ok(case.after_two == 2)
 }
 
 // `estimate_measured_pca_time INSTANTS FREQUENCIES`: the refusal alone, or 0 and the instant.
-fn estimate_measured_pca_time(case: Case, wholes: &Wholes, doubles: &Doubles) -> bool {
+fn estimate_measured_pca_time(
+    out: &mut impl Write,
+    case: Case,
+    wholes: &Wholes,
+    doubles: &Doubles,
+) -> io::Result<bool> {
     let approach = samples::estimate_measured_pca_time(
         wholes_in(wholes, 0, case.first),
         doubles_in(doubles, case.first, case.second),
     );
     match approach {
-        Approach::Refused(refusal) => print_refusal(refusal),
+        Approach::Refused(refusal) => print_refusal(out, refusal)?,
         Approach::At(t) => {
-            print_refusal(0);
-            print_word(unsigned(t.0));
+            print_refusal(out, 0)?;
+            print_word(out, unsigned(t.0))?;
         }
     }
-    case.after_two == 0
+    Ok(case.after_two == 0)
 }
 
 // `steepest_slope INSTANTS FREQUENCIES`: the refusal alone, or 0 and the slope.
-fn steepest_slope(case: Case, wholes: &Wholes, doubles: &Doubles) -> bool {
+fn steepest_slope(
+    out: &mut impl Write,
+    case: Case,
+    wholes: &Wholes,
+    doubles: &Doubles,
+) -> io::Result<bool> {
     let slope = samples::steepest_slope(
         wholes_in(wholes, 0, case.first),
         doubles_in(doubles, case.first, case.second),
     );
     match slope {
-        Slope::Refused(refusal) => print_refusal(refusal),
+        Slope::Refused(refusal) => print_refusal(out, refusal)?,
         Slope::Steepest(steepest) => {
-            print_refusal(0);
-            print_double(steepest);
+            print_refusal(out, 0)?;
+            print_double(out, steepest)?;
         }
     }
-    case.after_two == 0
+    Ok(case.after_two == 0)
 }
 
 // Puts a refusal, or 0, clock offset, frequency offset, RMSE, count, the instant, 1 or 0 for the fallback and how many lie outside the table.
-fn print_fit(fit: FitAnswer) {
+fn print_fit(out: &mut impl Write, fit: FitAnswer) -> io::Result<()> {
     match fit {
-        FitAnswer::Refused(refusal) => print_refusal(refusal),
+        FitAnswer::Refused(refusal) => print_refusal(out, refusal),
         FitAnswer::Reported(report) => {
-            print_refusal(0);
-            print_doubles(&[
-                report.clock_offset.0,
-                report.frequency_offset.0,
-                report.rmse.0,
-            ]);
-            print_word(report.count as u64);
-            print_word(unsigned(report.approach.0));
-            print_word(report.fallback as u64);
-            print_word(report.outside as u64);
+            print_refusal(out, 0)?;
+            print_doubles(
+                out,
+                &[
+                    report.clock_offset.0,
+                    report.frequency_offset.0,
+                    report.rmse.0,
+                ],
+            )?;
+            print_word(out, report.count as u64)?;
+            print_word(out, unsigned(report.approach.0))?;
+            print_word(out, report.fallback as u64)?;
+            print_word(out, report.outside as u64)
         }
     }
 }
 
 // `fit_satellite INSTANTS POSITIONS SAMPLES FREQUENCIES OX OY OZ F0 MEASURED`: the refusal alone, or 0 and the report.
-fn fit_satellite(case: Case, wholes: &Wholes, doubles: &Doubles) -> bool {
+fn fit_satellite(
+    out: &mut impl Write,
+    case: Case,
+    wholes: &Wholes,
+    doubles: &Doubles,
+) -> io::Result<bool> {
     let words = ten_doubles(doubles, case.fourth);
-    print_fit(orbit::fit_satellite(
-        wholes_in(wholes, 0, case.first),
-        doubles_in(doubles, case.first, case.second),
-        wholes_in(wholes, case.second, case.third),
-        doubles_in(doubles, case.third, case.fourth),
-        observer(words),
-        Hertz(words[3]),
-        Nanoseconds(whole_at(wholes, case.fourth, 4)),
-    ));
-    case.after_four == 5
+    print_fit(
+        out,
+        orbit::fit_satellite(
+            wholes_in(wholes, 0, case.first),
+            doubles_in(doubles, case.first, case.second),
+            wholes_in(wholes, case.second, case.third),
+            doubles_in(doubles, case.third, case.fourth),
+            observer(words),
+            Hertz(words[3]),
+            Nanoseconds(whole_at(wholes, case.fourth, 4)),
+        ),
+    )?;
+    Ok(case.after_four == 5)
 }
 
 // `pass INSTANTS POSITIONS SAMPLES FREQUENCIES OX OY OZ F0 LENGTH LENGTH`: the refusal, or 0 and the report; the areas follow.
 fn pass(
+    out: &mut impl Write,
     case: Case,
     wholes: &Wholes,
     doubles: &Doubles,
     instant_area: &mut [i64],
     frequency_area: &mut [f64],
-) -> bool {
+) -> io::Result<bool> {
     let words = ten_doubles(doubles, case.fourth);
-    print_fit(orbit::pass(
-        wholes_in(wholes, 0, case.first),
-        doubles_in(doubles, case.first, case.second),
-        wholes_in(wholes, case.second, case.third),
-        doubles_in(doubles, case.third, case.fourth),
-        observer(words),
-        Hertz(words[3]),
-        instant_area,
-        frequency_area,
-    ));
-    case.after_four == 6
+    print_fit(
+        out,
+        orbit::pass(
+            wholes_in(wholes, 0, case.first),
+            doubles_in(doubles, case.first, case.second),
+            wholes_in(wholes, case.second, case.third),
+            doubles_in(doubles, case.third, case.fourth),
+            observer(words),
+            Hertz(words[3]),
+            instant_area,
+            frequency_area,
+        ),
+    )?;
+    Ok(case.after_four == 6)
 }
 
 // The three bytes of a satellite, the first one lowest.
@@ -358,15 +420,16 @@ fn leap_seconds_of(word: i64) -> LeapSeconds {
 
 // `read_sp3 FILE BYTES SATELLITE LEAP_SECONDS LENGTH LENGTH`: the refusal, or 0 and the count; the areas follow.
 fn read_sp3(
+    out: &mut impl Write,
     case: Case,
     wholes: &Wholes,
     instant_area: &mut [i64],
     position_area: &mut [f64],
-) -> bool {
+) -> io::Result<bool> {
     let file = bytes_of(wholes);
     let length = unsigned(whole_at(wholes, case.first, 0)) as usize;
     if length > FILE {
-        return false;
+        return Ok(false);
     }
     let read = sp3::read_sp3(
         &file[0..length],
@@ -376,11 +439,11 @@ fn read_sp3(
         position_area,
     );
     match read {
-        Sp3Read::Refused(refusal) => print_refusal(refusal),
+        Sp3Read::Refused(refusal) => print_refusal(out, refusal)?,
         Sp3Read::Count(count) => {
-            print_refusal(0);
-            print_word(count as u64);
+            print_refusal(out, 0)?;
+            print_word(out, count as u64)?;
         }
     }
-    case.after_one == 5
+    Ok(case.after_one == 5)
 }

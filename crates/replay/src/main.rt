@@ -2,14 +2,17 @@
 // A case is the name of an entry and its arguments, each after a blank as the 16 lower-case hexadecimal digits of a double's bits or of an
 // i64's two's complement; a slice is its length in such digits, and then its elements. The answer is the name and what the library answers, in
 // the same form, after a refusal's number, or 0, in decimal where the entry can refuse. A line that is no case has `bad case` at its end.
+#![tactic(auto)]
+
 mod boards;
 mod entries;
 mod numbers;
 mod printer;
 mod words;
 
-use libc::STDOUT_FILENO;
 use numbers::{digit_of, double, signed};
+use std::io;
+use std::io::{BufWriter, Read, Write};
 use words::{Doubles, ROOM, Wholes};
 
 // How many letters a name may have.
@@ -18,9 +21,12 @@ const LETTERS: usize = 64;
 // How many digits a word has.
 const DIGITS: usize = 16;
 
+// How many bytes a read may give: enough that the program spends little of its time on the calls.
+const CHUNK: usize = 65536;
+
 // What is read of a line so far: how many letters of its name, more than there is room for where it is no case; how many words; and of the
 // last word how many digits, and their value. The letters and the words lie in arrays that the caller lends.
-#[derive(Drop)]
+#[derive(Clone, Copy)]
 struct Line {
     letters: usize,
     count: usize,
@@ -37,7 +43,13 @@ const FRESH: Line = Line {
 };
 
 // Answers a line that is read to its end.
-fn answer_line(line: Line, name: &[u8], wholes: &Wholes, doubles: &Doubles) {
+fn answer_line(
+    out: &mut impl Write,
+    line: Line,
+    name: &[u8],
+    wholes: &Wholes,
+    doubles: &Doubles,
+) -> io::Result<()> {
     let mut letters = line.letters;
     if line.digits != DIGITS {
         letters = LETTERS + 1;
@@ -45,29 +57,35 @@ fn answer_line(line: Line, name: &[u8], wholes: &Wholes, doubles: &Doubles) {
     if letters <= name.len() {
         let entry = &name[0..letters];
         let number = entries::number_of(entry);
-        io::write_all(STDOUT_FILENO, entry);
-        if entries::answer(number, words::case_of(wholes, line.count), wholes, doubles) {
-            io::write_all(STDOUT_FILENO, b"\n");
-            return;
+        out.write_all(entry)?;
+        if entries::answer(
+            out,
+            number,
+            words::case_of(wholes, line.count),
+            wholes,
+            doubles,
+        )? {
+            return out.write_all(b"\n");
         }
     }
-    io::write_all(STDOUT_FILENO, b" bad case\n");
+    out.write_all(b" bad case\n")
 }
 
 // Takes one more byte of the input: a line feed has the line answered, a blank begins a word, any other is a letter of the name or a digit of the word.
 fn take_byte(
+    out: &mut impl Write,
     line: Line,
     byte: u8,
     name: &mut [u8; LETTERS],
     wholes: &mut Wholes,
     doubles: &mut Doubles,
-) -> Line {
+) -> io::Result<Line> {
     let letters = line.letters;
     let count = line.count;
     let digits = line.digits;
     if byte == b'\n' {
-        answer_line(line, name, wholes, doubles);
-        return FRESH;
+        answer_line(out, line, name, wholes, doubles)?;
+        return Ok(FRESH);
     }
     // no case, unless the byte has its place
     let mut next = Line {
@@ -102,50 +120,60 @@ fn take_byte(
             }
         }
     }
-    next
+    Ok(next)
 }
 
 // Takes all the bytes of one read.
 fn take_bytes(
+    out: &mut impl Write,
     line: Line,
     bytes: &[u8],
     name: &mut [u8; LETTERS],
     wholes: &mut Wholes,
     doubles: &mut Doubles,
-) -> Line {
+) -> io::Result<Line> {
     let mut so_far = line;
-    let mut i = 0;
-    while i < bytes.len() {
-        so_far = take_byte(so_far, bytes[i], name, wholes, doubles);
-        i += 1;
+    for byte in bytes {
+        so_far = take_byte(out, so_far, *byte, name, wholes, doubles)?;
     }
-    so_far
+    Ok(so_far)
 }
 
-// Answers every line of the input that a line feed ends. A proved loop has to end, so it counts its reads down from a number that no run uses up.
+// Answers every line of the input that a line feed ends. A proved loop has to end, so it counts its reads up to a number that no run uses up.
 fn answer_all(
+    input: &mut impl Read,
+    out: &mut impl Write,
     chunk: &mut [u8],
     name: &mut [u8; LETTERS],
     wholes: &mut Wholes,
     doubles: &mut Doubles,
-) {
+) -> io::Result<()> {
     let mut line = FRESH;
-    let mut turns = u64::MAX;
-    while turns > 0 {
-        let n = io::read_full(libc::STDIN_FILENO, chunk);
+    for _ in 0..u64::MAX {
+        let n = input.read(chunk)?;
         if n == 0 {
             break;
         }
-        line = take_bytes(line, &chunk[..n], name, wholes, doubles);
-        turns -= 1;
+        line = take_bytes(out, line, &chunk[..n], name, wholes, doubles)?;
     }
+    Ok(())
 }
 
-// Lends the room: for a read, a name, and the words of a case.
-fn main() {
-    let mut chunk = io::large_buffer();
+// Lends the room: for a read, a name, and the words of a case. What is written goes through a buffer, which is written out before the end.
+fn main(rt: HostRuntime) -> io::Result<()> {
+    let mut input = rt.stdin();
+    let mut out = BufWriter::new(rt.alloc(), rt.stdout())?;
+    let mut chunk = [0u8; CHUNK];
     let mut name = [0u8; LETTERS];
     let mut wholes = [0i64; ROOM];
     let mut doubles = [0.0; ROOM];
-    answer_all(&mut chunk, &mut name, &mut wholes, &mut doubles);
+    answer_all(
+        &mut input,
+        &mut out,
+        &mut chunk,
+        &mut name,
+        &mut wholes,
+        &mut doubles,
+    )?;
+    out.flush()
 }

@@ -3,11 +3,11 @@ ghost use Rattle.std.specs.Prelude.{◌≡◌, ℕ, ◌<◌, from_bits};
 ghost use Rattle.std.specs.Float.{binary64};
 ghost use Rattle.std.specs.Int.{w64};
 ghost use Rattle.std.proofs.Common.{to_z, of_z};
-ghost use Rattle.io.specs.Digits.{hex_digit_ascii};
+ghost use Rattle.std.specs.Char.{digit_char};
 
 // The value of a lower-case hexadecimal digit, and 16 for any other byte.
 pub(crate) fn digit_of(byte: u8) -> u64
-    ensures { (result < 16 → hex_digit_ascii result ≡ byte) × ((d : ℕ) → d < 16 → hex_digit_ascii d ≡ byte → result ≡ d) }
+    ensures { (result < 16 → digit_char result ≡ byte) × ((d : ℕ) → d < 16 → digit_char d ≡ byte → result ≡ d) }
 {
     if byte < b'0' {
         return 16;

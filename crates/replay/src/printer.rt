@@ -1,42 +1,38 @@
-// Answers, put on standard output word by word, a blank before each.
+// Answers, put on the output word by word, a blank before each.
 use crate::numbers::unsigned;
-use libc::STDOUT_FILENO;
+use std::io;
+use std::io::Write;
 
 // Puts the 16 digits of a word.
-pub(crate) fn print_word(word: u64) {
-    io::write_all(STDOUT_FILENO, b" ");
-    io::print_hex(STDOUT_FILENO, word, 16);
+pub(crate) fn print_word(out: &mut impl Write, word: u64) -> io::Result<()> {
+    write!(out, " {word:016x}")
 }
 
 // Puts a refusal, or 0, in decimal.
-pub(crate) fn print_refusal(refusal: u8) {
-    io::write_all(STDOUT_FILENO, b" ");
-    io::print_decimal(STDOUT_FILENO, refusal as u64);
+pub(crate) fn print_refusal(out: &mut impl Write, refusal: u8) -> io::Result<()> {
+    write!(out, " {refusal}")
 }
 
 // Puts a double's bits, and a NaN as `nan`.
-pub(crate) fn print_double(x: f64) {
+pub(crate) fn print_double(out: &mut impl Write, x: f64) -> io::Result<()> {
     if x != x {
-        io::write_all(STDOUT_FILENO, b" nan");
-        return;
+        return out.write_all(b" nan");
     }
-    print_word(f64::to_bits(x));
+    print_word(out, f64::to_bits(x))
 }
 
 // Puts one double after the other.
-pub(crate) fn print_doubles(numbers: &[f64]) {
-    let mut i = 0;
-    while i < numbers.len() {
-        print_double(numbers[i]);
-        i += 1;
+pub(crate) fn print_doubles(out: &mut impl Write, numbers: &[f64]) -> io::Result<()> {
+    for x in numbers {
+        print_double(out, *x)?;
     }
+    Ok(())
 }
 
 // Puts the two's complement of one whole number after the other.
-pub(crate) fn print_wholes(numbers: &[i64]) {
-    let mut i = 0;
-    while i < numbers.len() {
-        print_word(unsigned(numbers[i]));
-        i += 1;
+pub(crate) fn print_wholes(out: &mut impl Write, numbers: &[i64]) -> io::Result<()> {
+    for n in numbers {
+        print_word(out, unsigned(*n))?;
     }
+    Ok(())
 }

@@ -23,7 +23,7 @@ const NOWHERE: usize = 0x8000_0000_0000_0000;
 
 // How many words a case has; where its first four slices end, which is where the next one's length stands, or the first word after the slices; and
 // how many words there are after one slice, after two and after four, a number that no case has where there are no such slices.
-#[derive(Drop)]
+#[derive(Clone, Copy)]
 pub(crate) struct Case {
     pub count: usize,
     pub first: usize,
