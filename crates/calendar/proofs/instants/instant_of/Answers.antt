@@ -35,17 +35,34 @@ seconds_less-seconds-requires c = facts c.args.c (is_so c)
 
 pub returns-then-is_far : goal.returns-then-is_far
 returns-then-is_far c =
-    let so = (let it : real c.args.c ≡ true = sym c.is_real.ensures ∙ c.if-not-is_real.false in it) in
-    chosen c.args.c c.args.leap_seconds.0 true true so (far_is_beyond c.args.c c.args.leap_seconds.0 (facts c.args.c so) (sym ((let it : c.is_far.result ≡ far (seconds_less c.args.c c.args.leap_seconds.0) = c.is_far.ensures ∙ ap far ((let it : back c.seconds_less-seconds.result ≡ seconds_less c.args.c c.args.leap_seconds.0 = to_z-of_z w64 c.seconds_less-seconds.result (record { sfits = c.seconds_less-seconds.type_inv }) ∙ c.seconds_less-seconds.ensures in it)) in it)) ∙ c.if-is_far.true))
+    let is_so : real c.args.c ≡ true = sym c.is_real.ensures ∙ c.if-not-is_real.false in
+    let seconds_are : back c.seconds_less-seconds.result ≡ seconds_less c.args.c c.args.leap_seconds.0 = to_z-of_z w64 c.seconds_less-seconds.result (record { sfits = c.seconds_less-seconds.type_inv }) ∙ c.seconds_less-seconds.ensures in
+    let far_is : c.is_far.result ≡ far (seconds_less c.args.c c.args.leap_seconds.0) = c.is_far.ensures ∙ ap far seconds_are in
+    let so = is_so in
+    chosen c.args.c c.args.leap_seconds.0 true true so (far_is_beyond c.args.c c.args.leap_seconds.0 (facts c.args.c so) (sym far_is ∙ c.if-is_far.true))
 
 pub joined-t-requires : goal.joined-t-requires
 joined-t-requires c = ltb-false many_seconds (nat_abs (back c.seconds_less-seconds.result)) (sym c.is_far.ensures ∙ c.if-is_far.false)
 
 pub returns-then-beyond : goal.returns-then-beyond
 returns-then-beyond c =
-    chosen c.args.c c.args.leap_seconds.0 true true ((let it : real c.args.c ≡ true = sym c.is_real.ensures ∙ c.if-not-is_real.false in it)) ((let it : beyond (lessened (since1970 c.args.c) c.args.leap_seconds.0) ≡ c.beyond.result = sym (c.beyond.ensures ∙ ap beyond ((let it : c.joined-t.result.0 ≡ lessened (since1970 c.args.c) c.args.leap_seconds.0 = c.joined-t.ensures ∙ ap (λ (z : ℤ). z *ℤ pos second +ℤ pos c.args.c.nanosecond) ((let it : back c.seconds_less-seconds.result ≡ seconds_less c.args.c c.args.leap_seconds.0 = to_z-of_z w64 c.seconds_less-seconds.result (record { sfits = c.seconds_less-seconds.type_inv }) ∙ c.seconds_less-seconds.ensures in it)) ∙ sym (seconds-first c.args.c c.args.leap_seconds.0) in it))) in it) ∙ c.if-beyond.true)
+    let is_so : real c.args.c ≡ true = sym c.is_real.ensures ∙ c.if-not-is_real.false in
+    let seconds_are : back c.seconds_less-seconds.result ≡ seconds_less c.args.c c.args.leap_seconds.0 = to_z-of_z w64 c.seconds_less-seconds.result (record { sfits = c.seconds_less-seconds.type_inv }) ∙ c.seconds_less-seconds.ensures in
+    let instant_is : c.joined-t.result.0 ≡ lessened (since1970 c.args.c) c.args.leap_seconds.0 =
+    c.joined-t.ensures
+    ∙ ap (λ (z : ℤ). z *ℤ pos second +ℤ pos c.args.c.nanosecond) seconds_are
+    ∙ sym (seconds-first c.args.c c.args.leap_seconds.0) in
+    let beyond_is : beyond (lessened (since1970 c.args.c) c.args.leap_seconds.0) ≡ c.beyond.result = sym (c.beyond.ensures ∙ ap beyond instant_is) in
+    chosen c.args.c c.args.leap_seconds.0 true true is_so (beyond_is ∙ c.if-beyond.true)
 
 pub returns : goal.returns
 returns c =
-    ap (λ (z : ℤ). At (record { 0 = z })) ((let it : c.joined-t.result.0 ≡ lessened (since1970 c.args.c) c.args.leap_seconds.0 = c.joined-t.ensures ∙ ap (λ (z : ℤ). z *ℤ pos second +ℤ pos c.args.c.nanosecond) ((let it : back c.seconds_less-seconds.result ≡ seconds_less c.args.c c.args.leap_seconds.0 = to_z-of_z w64 c.seconds_less-seconds.result (record { sfits = c.seconds_less-seconds.type_inv }) ∙ c.seconds_less-seconds.ensures in it)) ∙ sym (seconds-first c.args.c c.args.leap_seconds.0) in it))
-    ∙ chosen c.args.c c.args.leap_seconds.0 true false ((let it : real c.args.c ≡ true = sym c.is_real.ensures ∙ c.if-not-is_real.false in it)) ((let it : beyond (lessened (since1970 c.args.c) c.args.leap_seconds.0) ≡ c.beyond.result = sym (c.beyond.ensures ∙ ap beyond ((let it : c.joined-t.result.0 ≡ lessened (since1970 c.args.c) c.args.leap_seconds.0 = c.joined-t.ensures ∙ ap (λ (z : ℤ). z *ℤ pos second +ℤ pos c.args.c.nanosecond) ((let it : back c.seconds_less-seconds.result ≡ seconds_less c.args.c c.args.leap_seconds.0 = to_z-of_z w64 c.seconds_less-seconds.result (record { sfits = c.seconds_less-seconds.type_inv }) ∙ c.seconds_less-seconds.ensures in it)) ∙ sym (seconds-first c.args.c c.args.leap_seconds.0) in it))) in it) ∙ c.if-beyond.false)
+    let seconds_are : back c.seconds_less-seconds.result ≡ seconds_less c.args.c c.args.leap_seconds.0 = to_z-of_z w64 c.seconds_less-seconds.result (record { sfits = c.seconds_less-seconds.type_inv }) ∙ c.seconds_less-seconds.ensures in
+    let instant_is : c.joined-t.result.0 ≡ lessened (since1970 c.args.c) c.args.leap_seconds.0 =
+    c.joined-t.ensures
+    ∙ ap (λ (z : ℤ). z *ℤ pos second +ℤ pos c.args.c.nanosecond) seconds_are
+    ∙ sym (seconds-first c.args.c c.args.leap_seconds.0) in
+    let is_so : real c.args.c ≡ true = sym c.is_real.ensures ∙ c.if-not-is_real.false in
+    let beyond_is : beyond (lessened (since1970 c.args.c) c.args.leap_seconds.0) ≡ c.beyond.result = sym (c.beyond.ensures ∙ ap beyond instant_is) in
+    ap (λ (z : ℤ). At (record { 0 = z })) instant_is
+    ∙ chosen c.args.c c.args.leap_seconds.0 true false is_so (beyond_is ∙ c.if-beyond.false)

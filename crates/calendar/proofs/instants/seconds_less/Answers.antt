@@ -38,10 +38,16 @@ read_leaps c = to_z-of_z w16 (leaps c) (sixteen c)
 
 value : (c : After-struct_told-1) → back (to_z w64 c.second_number.result -ℤ pos 62135596800) -ℤ back (to_z w16 (of_z w16 (leaps c))) ≡ (pos c.second_number.result -ℤ pos 62135596800) -ℤ leaps c
 value c =
-    ap₂ ◌-ℤ◌ (ap back ((let it : to_z w64 c.second_number.result -ℤ pos 62135596800 ≡ (pos c.second_number.result -ℤ pos 62135596800) = ap (λ (z : ℤ). z -ℤ pos 62135596800) (to_z_pos w64 c.second_number.result (omega (arith, (let it : c.second_number.result ≤ 400000000000 = subst (λ (n : ℕ). n ≤ 400000000000) (sym c.second_number.ensures) (second-small c.args.c c.requires) in it)))) in it)) ∙ to_z-of_z w64 ((pos c.second_number.result -ℤ pos 62135596800)) ((let it : SFits w64 ((pos c.second_number.result -ℤ pos 62135596800)) = between_fits c.second_number.result 62135596800 ((let it : c.second_number.result ≤ 400000000000 = subst (λ (n : ℕ). n ≤ 400000000000) (sym c.second_number.ensures) (second-small c.args.c c.requires) in it)) (omega arith) in it))) (ap back (read_leaps c) ∙ to_z-of_z w64 (leaps c) (widened (leaps c) (sixteen c)))
+    let small : c.second_number.result ≤ 400000000000 = subst (λ (n : ℕ). n ≤ 400000000000) (sym c.second_number.ensures) (second-small c.args.c c.requires) in
+    let read : to_z w64 c.second_number.result -ℤ pos 62135596800 ≡ (pos c.second_number.result -ℤ pos 62135596800) = ap (λ (z : ℤ). z -ℤ pos 62135596800) (to_z_pos w64 c.second_number.result (omega (arith, small))) in
+    let since = pos c.second_number.result -ℤ pos 62135596800 in
+    let since_fits : SFits w64 ((pos c.second_number.result -ℤ pos 62135596800)) = between_fits c.second_number.result 62135596800 small (omega arith) in
+    ap₂ ◌-ℤ◌ (ap back read ∙ to_z-of_z w64 since since_fits) (ap back (read_leaps c) ∙ to_z-of_z w64 (leaps c) (widened (leaps c) (sixteen c)))
 
 fits : (c : After-struct_told-1) → SFits w64 ((pos c.second_number.result -ℤ pos 62135596800) -ℤ leaps c)
-fits c = less-fits c.second_number.result 62135596800 ((let it : c.second_number.result ≤ 400000000000 = subst (λ (n : ℕ). n ≤ 400000000000) (sym c.second_number.ensures) (second-small c.args.c c.requires) in it)) (omega arith) (leaps c) (sixteen c)
+fits c =
+    let small : c.second_number.result ≤ 400000000000 = subst (λ (n : ℕ). n ≤ 400000000000) (sym c.second_number.ensures) (second-small c.args.c c.requires) in
+    less-fits c.second_number.result 62135596800 small (omega arith) (leaps c) (sixteen c)
 
 pub overflow_cast-result : goal.overflow_cast-result
 overflow_cast-result c = record { sfits = omega (arith, small c) }
@@ -57,4 +63,5 @@ overflow_sub-result-2 c = subst (SFits w64) (sym (value c)) (fits c)
 
 pub returns : goal.returns
 returns c =
-    ap back (value c) ∙ to_z-of_z w64 ((pos c.second_number.result -ℤ pos 62135596800) -ℤ leaps c) (fits c) ∙ ap₂ (λ (n e : ℕ). pos n -ℤ pos e -ℤ leaps c) c.second_number.ensures (sym origin-seconds)
+    let since = pos c.second_number.result -ℤ pos 62135596800 in
+    ap back (value c) ∙ to_z-of_z w64 (since -ℤ leaps c) (fits c) ∙ ap₂ (λ (n e : ℕ). pos n -ℤ pos e -ℤ leaps c) c.second_number.ensures (sym origin-seconds)

@@ -1,71 +1,86 @@
 -- The two stages are the definition's; the first one's offset is small, so the second one's are too, and each fits. Assumes nothing.
 use mathlib.Core.Path.{◌≡◌, sym, ap, ap₂, ◌∙◌, subst}
+use mathlib.Core.List.{List}
 use Prim.Native.Nat.{◌+◌, ◌≤◌}
 use native.Mathlib.Omega.{arith}
 use native.Mathlib.Nat.{le_trans}
 use lib.IntN.{ℤ, pos, nat_abs, ◌-ℤ◌}
-use lib.Ieee.{of_bits}
+use lib.Ieee.{Float, of_bits}
 use mir.Syntax.{w64}
 use mir.Val.{SFits}
 use mir.ValLaws.{to_z-of_z}
+use Rattle.units.specs.declared.Seconds.{Seconds}
+use Rattle.units.specs.declared.Observer.{Observer}
 use Rattle.orbit.specs.declared.closest.LeastRange.{LeastRange}
 use Rattle.common.specs.Search.{first_best}
-use Rattle.orbit.specs.Closest.{moved_by_seconds, nearer, centred, minutes, seconds_about, ranges, by_minutes, by_seconds}
+use Rattle.orbit.specs.Closest.{moved_by_seconds, nearer, centred, minutes, seconds_about, ranges, by_minutes, by_seconds, closest_instant}
 use Rattle.orbit.proofs.Offsets.{back, small-fits, before_small}
 use Rattle.orbit.proofs.Ranges.{minutes-small, seconds-small}
 use Rattle.orbit.specs.Bounds.{farthest_offset, reach}
 use Rattle.orbit.proofs.closest.closest_at.Goals as goal
-use Rattle.orbit.proofs.closest.closest_at.Goals.{After-seek_least_range-by_minutes, After-seek_least_range-by_seconds, Start}
 
--- the first stage, and its offset
-minutes_are : (c : After-seek_least_range-by_minutes) → c.seek_least_range-by_minutes.result ≡ (let a = c.args in by_minutes a.tolerance a.instants.now a.positions.now a.observer a.around.0)
-unfolding of_bits
-minutes_are c = c.seek_least_range-by_minutes.ensures
+-- what a call is given, and the first stage, whose least is m
+module _ (tolerance : Seconds) (times : List ℤ) (positions : List Float) (observer : Observer) (around : ℤ) (m : LeastRange) (e : m ≡ by_minutes tolerance times positions observer around) where
+  centre_small : nat_abs m.offset ≤ reach minutes
+  centre_small = subst (λ (n : LeastRange). nat_abs n.offset ≤ reach minutes) (sym e) (minutes-small tolerance times positions observer around)
 
-centre-small : (c : After-seek_least_range-by_minutes) → nat_abs c.seek_least_range-by_minutes.result.offset ≤ reach minutes
-centre-small c =
-    let a = c.args in
-    subst (λ (n : LeastRange). nat_abs n.offset ≤ reach minutes) (sym (minutes_are c)) (minutes-small a.tolerance a.instants.now a.positions.now a.observer a.around.0)
+  centre_is : back m.offset ≡ m.offset
+  centre_is = to_z-of_z w64 m.offset (small-fits m.offset (le_trans centre_small (omega arith)))
 
-centre_is : (c : After-seek_least_range-by_minutes) → back c.seek_least_range-by_minutes.result.offset ≡ c.seek_least_range-by_minutes.result.offset
-centre_is c = to_z-of_z w64 c.seek_least_range-by_minutes.result.offset (small-fits c.seek_least_range-by_minutes.result.offset (le_trans (centre-small c) (omega arith)))
+  -- sixty seconds before it
+  abbrev first : ℤ
+  first = (seconds_about m.offset).first
 
--- sixty seconds before it
-abbrev first_of : After-seek_least_range-by_minutes → ℤ
-first_of c = (seconds_about c.seek_least_range-by_minutes.result.offset).first
+  first_small : nat_abs first ≤ reach minutes + 60
+  first_small = before_small m.offset (reach minutes) centre_small
 
-first_small : (c : After-seek_least_range-by_minutes) → nat_abs (first_of c) ≤ reach minutes + 60
-first_small c = before_small c.seek_least_range-by_minutes.result.offset (reach minutes) (centre-small c)
+  difference : back m.offset -ℤ pos 60 ≡ first
+  difference = ap (λ (z : ℤ). z -ℤ pos 60) centre_is
 
-first_fits : (c : After-seek_least_range-by_minutes) → SFits w64 (first_of c)
-first_fits c = small-fits (first_of c) (le_trans (first_small c) (omega arith))
+  first_fits : SFits w64 first
+  first_fits = small-fits first (le_trans first_small (omega arith))
 
--- the second stage, and its offset
-seconds_are : (c : After-seek_least_range-by_seconds) → c.seek_least_range-by_seconds.result ≡ (let a = c.args in by_seconds a.tolerance a.instants.now a.positions.now a.observer a.around.0)
-unfolding of_bits
-seconds_are c =
-    let a = c.args in
-    let stage : ℤ → ℤ → LeastRange = λ first centre.
-    first_best nearer (centred centre) (ranges a.tolerance a.instants.now a.positions.now a.observer a.around.0 (record { first = first; step = 1; count = 121 })) in
-    c.seek_least_range-by_seconds.ensures
-    ∙ ap₂ stage ((let it : back (back c.seek_least_range-by_minutes.result.offset -ℤ pos 60) ≡ ((seconds_about c.seek_least_range-by_minutes.result.offset).first) = ap back ((let it : back c.seek_least_range-by_minutes.result.offset -ℤ pos 60 ≡ ((seconds_about c.seek_least_range-by_minutes.result.offset).first) = ap (λ (z : ℤ). z -ℤ pos 60) ((let it : back c.seek_least_range-by_minutes.result.offset ≡ c.seek_least_range-by_minutes.result.offset = to_z-of_z w64 c.seek_least_range-by_minutes.result.offset (small-fits c.seek_least_range-by_minutes.result.offset (le_trans ((let it : nat_abs c.seek_least_range-by_minutes.result.offset ≤ reach minutes = let a = c.args in subst (λ (n : LeastRange). nat_abs n.offset ≤ reach minutes) (sym ((let it : c.seek_least_range-by_minutes.result ≡ (let a = c.args in by_minutes a.tolerance a.instants.now a.positions.now a.observer a.around.0) = c.seek_least_range-by_minutes.ensures in it))) (minutes-small a.tolerance a.instants.now a.positions.now a.observer a.around.0) in it)) (omega arith))) in it)) in it)) ∙ to_z-of_z w64 (((seconds_about c.seek_least_range-by_minutes.result.offset).first)) ((let it : SFits w64 (((seconds_about c.seek_least_range-by_minutes.result.offset).first)) = small-fits (((seconds_about c.seek_least_range-by_minutes.result.offset).first)) (le_trans ((let it : nat_abs (((seconds_about c.seek_least_range-by_minutes.result.offset).first)) ≤ reach minutes + 60 = before_small c.seek_least_range-by_minutes.result.offset (reach minutes) ((let it : nat_abs c.seek_least_range-by_minutes.result.offset ≤ reach minutes = let a = c.args in subst (λ (n : LeastRange). nat_abs n.offset ≤ reach minutes) (sym ((let it : c.seek_least_range-by_minutes.result ≡ (let a = c.args in by_minutes a.tolerance a.instants.now a.positions.now a.observer a.around.0) = c.seek_least_range-by_minutes.ensures in it))) (minutes-small a.tolerance a.instants.now a.positions.now a.observer a.around.0) in it)) in it)) (omega arith)) in it)) in it)) ((let it : back c.seek_least_range-by_minutes.result.offset ≡ c.seek_least_range-by_minutes.result.offset = to_z-of_z w64 c.seek_least_range-by_minutes.result.offset (small-fits c.seek_least_range-by_minutes.result.offset (le_trans ((let it : nat_abs c.seek_least_range-by_minutes.result.offset ≤ reach minutes = let a = c.args in subst (λ (n : LeastRange). nat_abs n.offset ≤ reach minutes) (sym ((let it : c.seek_least_range-by_minutes.result ≡ (let a = c.args in by_minutes a.tolerance a.instants.now a.positions.now a.observer a.around.0) = c.seek_least_range-by_minutes.ensures in it))) (minutes-small a.tolerance a.instants.now a.positions.now a.observer a.around.0) in it)) (omega arith))) in it))
-    ∙ ap (λ (n : LeastRange). stage (seconds_about n.offset).first n.offset) ((let it : c.seek_least_range-by_minutes.result ≡ (let a = c.args in by_minutes a.tolerance a.instants.now a.positions.now a.observer a.around.0) = c.seek_least_range-by_minutes.ensures in it))
+  first_is : back (back m.offset -ℤ pos 60) ≡ first
+  first_is = ap back difference ∙ to_z-of_z w64 first first_fits
+
+  -- a search by seconds from a first offset about a centre, and the second stage as the code asks for it
+  abbrev stage : ℤ → ℤ → LeastRange
+  stage first centre = first_best nearer (centred centre) (ranges tolerance times positions observer around (record { first = first; step = 1; count = 121 }))
+
+  module _ (s : LeastRange) (h : s ≡ stage (back (back m.offset -ℤ pos 60)) (back m.offset)) where
+    seconds_are : s ≡ by_seconds tolerance times positions observer around
+    seconds_are = h ∙ ap₂ stage first_is centre_is ∙ ap (λ (n : LeastRange). stage (seconds_about n.offset).first n.offset) e
+
+    found_small : nat_abs s.offset ≤ farthest_offset
+    found_small = subst (λ (n : LeastRange). nat_abs n.offset ≤ farthest_offset) (sym seconds_are) (seconds-small tolerance times positions observer around)
+
+    found_is : back s.offset ≡ s.offset
+    found_is = to_z-of_z w64 s.offset (small-fits s.offset found_small)
+
+    moved_is : moved_by_seconds around (back s.offset) ≡ closest_instant tolerance times positions observer around
+    moved_is = ap (moved_by_seconds around) (found_is ∙ ap (λ (n : LeastRange). n.offset) seconds_are)
 
 pub overflow_sub-seconds : goal.overflow_sub-seconds
 unfolding of_bits
-overflow_sub-seconds c = subst (SFits w64) (sym ((let it : back c.seek_least_range-by_minutes.result.offset -ℤ pos 60 ≡ ((seconds_about c.seek_least_range-by_minutes.result.offset).first) = ap (λ (z : ℤ). z -ℤ pos 60) ((let it : back c.seek_least_range-by_minutes.result.offset ≡ c.seek_least_range-by_minutes.result.offset = to_z-of_z w64 c.seek_least_range-by_minutes.result.offset (small-fits c.seek_least_range-by_minutes.result.offset (le_trans ((let it : nat_abs c.seek_least_range-by_minutes.result.offset ≤ reach minutes = let a = c.args in subst (λ (n : LeastRange). nat_abs n.offset ≤ reach minutes) (sym ((let it : c.seek_least_range-by_minutes.result ≡ (let a = c.args in by_minutes a.tolerance a.instants.now a.positions.now a.observer a.around.0) = c.seek_least_range-by_minutes.ensures in it))) (minutes-small a.tolerance a.instants.now a.positions.now a.observer a.around.0) in it)) (omega arith))) in it)) in it))) ((let it : SFits w64 (((seconds_about c.seek_least_range-by_minutes.result.offset).first)) = small-fits (((seconds_about c.seek_least_range-by_minutes.result.offset).first)) (le_trans ((let it : nat_abs (((seconds_about c.seek_least_range-by_minutes.result.offset).first)) ≤ reach minutes + 60 = before_small c.seek_least_range-by_minutes.result.offset (reach minutes) ((let it : nat_abs c.seek_least_range-by_minutes.result.offset ≤ reach minutes = let a = c.args in subst (λ (n : LeastRange). nat_abs n.offset ≤ reach minutes) (sym ((let it : c.seek_least_range-by_minutes.result ≡ (let a = c.args in by_minutes a.tolerance a.instants.now a.positions.now a.observer a.around.0) = c.seek_least_range-by_minutes.ensures in it))) (minutes-small a.tolerance a.instants.now a.positions.now a.observer a.around.0) in it)) in it)) (omega arith)) in it))
+overflow_sub-seconds c =
+    let a = c.args in
+    subst (SFits w64) (sym (difference a.tolerance a.instants.now a.positions.now a.observer a.around.0 c.seek_least_range-by_minutes.result c.seek_least_range-by_minutes.ensures)) (first_fits a.tolerance a.instants.now a.positions.now a.observer a.around.0 c.seek_least_range-by_minutes.result c.seek_least_range-by_minutes.ensures)
 
 pub seek_least_range-by_seconds-requires : goal.seek_least_range-by_seconds-requires
 unfolding of_bits
 seek_least_range-by_seconds-requires c =
-    (c.requires.0, c.requires.1, subst (λ (z : ℤ). nat_abs z + 121 ≤ farthest_offset) (sym ((let it : back (back c.seek_least_range-by_minutes.result.offset -ℤ pos 60) ≡ ((seconds_about c.seek_least_range-by_minutes.result.offset).first) = ap back ((let it : back c.seek_least_range-by_minutes.result.offset -ℤ pos 60 ≡ ((seconds_about c.seek_least_range-by_minutes.result.offset).first) = ap (λ (z : ℤ). z -ℤ pos 60) ((let it : back c.seek_least_range-by_minutes.result.offset ≡ c.seek_least_range-by_minutes.result.offset = to_z-of_z w64 c.seek_least_range-by_minutes.result.offset (small-fits c.seek_least_range-by_minutes.result.offset (le_trans ((let it : nat_abs c.seek_least_range-by_minutes.result.offset ≤ reach minutes = let a = c.args in subst (λ (n : LeastRange). nat_abs n.offset ≤ reach minutes) (sym ((let it : c.seek_least_range-by_minutes.result ≡ (let a = c.args in by_minutes a.tolerance a.instants.now a.positions.now a.observer a.around.0) = c.seek_least_range-by_minutes.ensures in it))) (minutes-small a.tolerance a.instants.now a.positions.now a.observer a.around.0) in it)) (omega arith))) in it)) in it)) ∙ to_z-of_z w64 (((seconds_about c.seek_least_range-by_minutes.result.offset).first)) ((let it : SFits w64 (((seconds_about c.seek_least_range-by_minutes.result.offset).first)) = small-fits (((seconds_about c.seek_least_range-by_minutes.result.offset).first)) (le_trans ((let it : nat_abs (((seconds_about c.seek_least_range-by_minutes.result.offset).first)) ≤ reach minutes + 60 = before_small c.seek_least_range-by_minutes.result.offset (reach minutes) ((let it : nat_abs c.seek_least_range-by_minutes.result.offset ≤ reach minutes = let a = c.args in subst (λ (n : LeastRange). nat_abs n.offset ≤ reach minutes) (sym ((let it : c.seek_least_range-by_minutes.result ≡ (let a = c.args in by_minutes a.tolerance a.instants.now a.positions.now a.observer a.around.0) = c.seek_least_range-by_minutes.ensures in it))) (minutes-small a.tolerance a.instants.now a.positions.now a.observer a.around.0) in it)) in it)) (omega arith)) in it)) in it))) (omega (arith, (let it : nat_abs (((seconds_about c.seek_least_range-by_minutes.result.offset).first)) ≤ reach minutes + 60 = before_small c.seek_least_range-by_minutes.result.offset (reach minutes) ((let it : nat_abs c.seek_least_range-by_minutes.result.offset ≤ reach minutes = let a = c.args in subst (λ (n : LeastRange). nat_abs n.offset ≤ reach minutes) (sym ((let it : c.seek_least_range-by_minutes.result ≡ (let a = c.args in by_minutes a.tolerance a.instants.now a.positions.now a.observer a.around.0) = c.seek_least_range-by_minutes.ensures in it))) (minutes-small a.tolerance a.instants.now a.positions.now a.observer a.around.0) in it)) in it))))
+    let a = c.args in
+    let small = first_small a.tolerance a.instants.now a.positions.now a.observer a.around.0 c.seek_least_range-by_minutes.result c.seek_least_range-by_minutes.ensures in
+    (c.requires.0, c.requires.1, subst (λ (z : ℤ). nat_abs z + 121 ≤ farthest_offset) (sym (first_is a.tolerance a.instants.now a.positions.now a.observer a.around.0 c.seek_least_range-by_minutes.result c.seek_least_range-by_minutes.ensures)) (omega (arith, small)))
 
 pub moved_by_seconds-requires : goal.moved_by_seconds-requires
 unfolding of_bits
 moved_by_seconds-requires c =
-    (c.requires.1, subst (λ (z : ℤ). nat_abs z ≤ farthest_offset) (sym ((let it : back c.seek_least_range-by_seconds.result.offset ≡ c.seek_least_range-by_seconds.result.offset = to_z-of_z w64 c.seek_least_range-by_seconds.result.offset (small-fits c.seek_least_range-by_seconds.result.offset ((let it : nat_abs c.seek_least_range-by_seconds.result.offset ≤ farthest_offset = let a = c.args in subst (λ (n : LeastRange). nat_abs n.offset ≤ farthest_offset) (sym ((let it : c.seek_least_range-by_seconds.result ≡ (let a = c.args in by_seconds a.tolerance a.instants.now a.positions.now a.observer a.around.0) = let a = c.args in let stage : ℤ → ℤ → LeastRange = λ first centre. first_best nearer (centred centre) (ranges a.tolerance a.instants.now a.positions.now a.observer a.around.0 (record { first = first; step = 1; count = 121 })) in c.seek_least_range-by_seconds.ensures ∙ ap₂ stage ((let it : back (back c.seek_least_range-by_minutes.result.offset -ℤ pos 60) ≡ ((seconds_about c.seek_least_range-by_minutes.result.offset).first) = ap back ((let it : back c.seek_least_range-by_minutes.result.offset -ℤ pos 60 ≡ ((seconds_about c.seek_least_range-by_minutes.result.offset).first) = ap (λ (z : ℤ). z -ℤ pos 60) ((let it : back c.seek_least_range-by_minutes.result.offset ≡ c.seek_least_range-by_minutes.result.offset = to_z-of_z w64 c.seek_least_range-by_minutes.result.offset (small-fits c.seek_least_range-by_minutes.result.offset (le_trans ((let it : nat_abs c.seek_least_range-by_minutes.result.offset ≤ reach minutes = let a = c.args in subst (λ (n : LeastRange). nat_abs n.offset ≤ reach minutes) (sym ((let it : c.seek_least_range-by_minutes.result ≡ (let a = c.args in by_minutes a.tolerance a.instants.now a.positions.now a.observer a.around.0) = c.seek_least_range-by_minutes.ensures in it))) (minutes-small a.tolerance a.instants.now a.positions.now a.observer a.around.0) in it)) (omega arith))) in it)) in it)) ∙ to_z-of_z w64 (((seconds_about c.seek_least_range-by_minutes.result.offset).first)) ((let it : SFits w64 (((seconds_about c.seek_least_range-by_minutes.result.offset).first)) = small-fits (((seconds_about c.seek_least_range-by_minutes.result.offset).first)) (le_trans ((let it : nat_abs (((seconds_about c.seek_least_range-by_minutes.result.offset).first)) ≤ reach minutes + 60 = before_small c.seek_least_range-by_minutes.result.offset (reach minutes) ((let it : nat_abs c.seek_least_range-by_minutes.result.offset ≤ reach minutes = let a = c.args in subst (λ (n : LeastRange). nat_abs n.offset ≤ reach minutes) (sym ((let it : c.seek_least_range-by_minutes.result ≡ (let a = c.args in by_minutes a.tolerance a.instants.now a.positions.now a.observer a.around.0) = c.seek_least_range-by_minutes.ensures in it))) (minutes-small a.tolerance a.instants.now a.positions.now a.observer a.around.0) in it)) in it)) (omega arith)) in it)) in it)) ((let it : back c.seek_least_range-by_minutes.result.offset ≡ c.seek_least_range-by_minutes.result.offset = to_z-of_z w64 c.seek_least_range-by_minutes.result.offset (small-fits c.seek_least_range-by_minutes.result.offset (le_trans ((let it : nat_abs c.seek_least_range-by_minutes.result.offset ≤ reach minutes = let a = c.args in subst (λ (n : LeastRange). nat_abs n.offset ≤ reach minutes) (sym ((let it : c.seek_least_range-by_minutes.result ≡ (let a = c.args in by_minutes a.tolerance a.instants.now a.positions.now a.observer a.around.0) = c.seek_least_range-by_minutes.ensures in it))) (minutes-small a.tolerance a.instants.now a.positions.now a.observer a.around.0) in it)) (omega arith))) in it)) ∙ ap (λ (n : LeastRange). stage (seconds_about n.offset).first n.offset) ((let it : c.seek_least_range-by_minutes.result ≡ (let a = c.args in by_minutes a.tolerance a.instants.now a.positions.now a.observer a.around.0) = c.seek_least_range-by_minutes.ensures in it)) in it))) (seconds-small a.tolerance a.instants.now a.positions.now a.observer a.around.0) in it))) in it))) ((let it : nat_abs c.seek_least_range-by_seconds.result.offset ≤ farthest_offset = let a = c.args in subst (λ (n : LeastRange). nat_abs n.offset ≤ farthest_offset) (sym ((let it : c.seek_least_range-by_seconds.result ≡ (let a = c.args in by_seconds a.tolerance a.instants.now a.positions.now a.observer a.around.0) = let a = c.args in let stage : ℤ → ℤ → LeastRange = λ first centre. first_best nearer (centred centre) (ranges a.tolerance a.instants.now a.positions.now a.observer a.around.0 (record { first = first; step = 1; count = 121 })) in c.seek_least_range-by_seconds.ensures ∙ ap₂ stage ((let it : back (back c.seek_least_range-by_minutes.result.offset -ℤ pos 60) ≡ ((seconds_about c.seek_least_range-by_minutes.result.offset).first) = ap back ((let it : back c.seek_least_range-by_minutes.result.offset -ℤ pos 60 ≡ ((seconds_about c.seek_least_range-by_minutes.result.offset).first) = ap (λ (z : ℤ). z -ℤ pos 60) ((let it : back c.seek_least_range-by_minutes.result.offset ≡ c.seek_least_range-by_minutes.result.offset = to_z-of_z w64 c.seek_least_range-by_minutes.result.offset (small-fits c.seek_least_range-by_minutes.result.offset (le_trans ((let it : nat_abs c.seek_least_range-by_minutes.result.offset ≤ reach minutes = let a = c.args in subst (λ (n : LeastRange). nat_abs n.offset ≤ reach minutes) (sym ((let it : c.seek_least_range-by_minutes.result ≡ (let a = c.args in by_minutes a.tolerance a.instants.now a.positions.now a.observer a.around.0) = c.seek_least_range-by_minutes.ensures in it))) (minutes-small a.tolerance a.instants.now a.positions.now a.observer a.around.0) in it)) (omega arith))) in it)) in it)) ∙ to_z-of_z w64 (((seconds_about c.seek_least_range-by_minutes.result.offset).first)) ((let it : SFits w64 (((seconds_about c.seek_least_range-by_minutes.result.offset).first)) = small-fits (((seconds_about c.seek_least_range-by_minutes.result.offset).first)) (le_trans ((let it : nat_abs (((seconds_about c.seek_least_range-by_minutes.result.offset).first)) ≤ reach minutes + 60 = before_small c.seek_least_range-by_minutes.result.offset (reach minutes) ((let it : nat_abs c.seek_least_range-by_minutes.result.offset ≤ reach minutes = let a = c.args in subst (λ (n : LeastRange). nat_abs n.offset ≤ reach minutes) (sym ((let it : c.seek_least_range-by_minutes.result ≡ (let a = c.args in by_minutes a.tolerance a.instants.now a.positions.now a.observer a.around.0) = c.seek_least_range-by_minutes.ensures in it))) (minutes-small a.tolerance a.instants.now a.positions.now a.observer a.around.0) in it)) in it)) (omega arith)) in it)) in it)) ((let it : back c.seek_least_range-by_minutes.result.offset ≡ c.seek_least_range-by_minutes.result.offset = to_z-of_z w64 c.seek_least_range-by_minutes.result.offset (small-fits c.seek_least_range-by_minutes.result.offset (le_trans ((let it : nat_abs c.seek_least_range-by_minutes.result.offset ≤ reach minutes = let a = c.args in subst (λ (n : LeastRange). nat_abs n.offset ≤ reach minutes) (sym ((let it : c.seek_least_range-by_minutes.result ≡ (let a = c.args in by_minutes a.tolerance a.instants.now a.positions.now a.observer a.around.0) = c.seek_least_range-by_minutes.ensures in it))) (minutes-small a.tolerance a.instants.now a.positions.now a.observer a.around.0) in it)) (omega arith))) in it)) ∙ ap (λ (n : LeastRange). stage (seconds_about n.offset).first n.offset) ((let it : c.seek_least_range-by_minutes.result ≡ (let a = c.args in by_minutes a.tolerance a.instants.now a.positions.now a.observer a.around.0) = c.seek_least_range-by_minutes.ensures in it)) in it))) (seconds-small a.tolerance a.instants.now a.positions.now a.observer a.around.0) in it)))
+    let a = c.args in
+    (c.requires.1, subst (λ (z : ℤ). nat_abs z ≤ farthest_offset) (sym (found_is a.tolerance a.instants.now a.positions.now a.observer a.around.0 c.seek_least_range-by_minutes.result c.seek_least_range-by_minutes.ensures c.seek_least_range-by_seconds.result c.seek_least_range-by_seconds.ensures)) (found_small a.tolerance a.instants.now a.positions.now a.observer a.around.0 c.seek_least_range-by_minutes.result c.seek_least_range-by_minutes.ensures c.seek_least_range-by_seconds.result c.seek_least_range-by_seconds.ensures))
 
 pub returns : goal.returns
 unfolding of_bits
 returns c =
-    c.moved_by_seconds.ensures ∙ ap (moved_by_seconds c.args.around.0) ((let it : back c.seek_least_range-by_seconds.result.offset ≡ c.seek_least_range-by_seconds.result.offset = to_z-of_z w64 c.seek_least_range-by_seconds.result.offset (small-fits c.seek_least_range-by_seconds.result.offset ((let it : nat_abs c.seek_least_range-by_seconds.result.offset ≤ farthest_offset = let a = c.args in subst (λ (n : LeastRange). nat_abs n.offset ≤ farthest_offset) (sym ((let it : c.seek_least_range-by_seconds.result ≡ (let a = c.args in by_seconds a.tolerance a.instants.now a.positions.now a.observer a.around.0) = let a = c.args in let stage : ℤ → ℤ → LeastRange = λ first centre. first_best nearer (centred centre) (ranges a.tolerance a.instants.now a.positions.now a.observer a.around.0 (record { first = first; step = 1; count = 121 })) in c.seek_least_range-by_seconds.ensures ∙ ap₂ stage ((let it : back (back c.seek_least_range-by_minutes.result.offset -ℤ pos 60) ≡ ((seconds_about c.seek_least_range-by_minutes.result.offset).first) = ap back ((let it : back c.seek_least_range-by_minutes.result.offset -ℤ pos 60 ≡ ((seconds_about c.seek_least_range-by_minutes.result.offset).first) = ap (λ (z : ℤ). z -ℤ pos 60) ((let it : back c.seek_least_range-by_minutes.result.offset ≡ c.seek_least_range-by_minutes.result.offset = to_z-of_z w64 c.seek_least_range-by_minutes.result.offset (small-fits c.seek_least_range-by_minutes.result.offset (le_trans ((let it : nat_abs c.seek_least_range-by_minutes.result.offset ≤ reach minutes = let a = c.args in subst (λ (n : LeastRange). nat_abs n.offset ≤ reach minutes) (sym ((let it : c.seek_least_range-by_minutes.result ≡ (let a = c.args in by_minutes a.tolerance a.instants.now a.positions.now a.observer a.around.0) = c.seek_least_range-by_minutes.ensures in it))) (minutes-small a.tolerance a.instants.now a.positions.now a.observer a.around.0) in it)) (omega arith))) in it)) in it)) ∙ to_z-of_z w64 (((seconds_about c.seek_least_range-by_minutes.result.offset).first)) ((let it : SFits w64 (((seconds_about c.seek_least_range-by_minutes.result.offset).first)) = small-fits (((seconds_about c.seek_least_range-by_minutes.result.offset).first)) (le_trans ((let it : nat_abs (((seconds_about c.seek_least_range-by_minutes.result.offset).first)) ≤ reach minutes + 60 = before_small c.seek_least_range-by_minutes.result.offset (reach minutes) ((let it : nat_abs c.seek_least_range-by_minutes.result.offset ≤ reach minutes = let a = c.args in subst (λ (n : LeastRange). nat_abs n.offset ≤ reach minutes) (sym ((let it : c.seek_least_range-by_minutes.result ≡ (let a = c.args in by_minutes a.tolerance a.instants.now a.positions.now a.observer a.around.0) = c.seek_least_range-by_minutes.ensures in it))) (minutes-small a.tolerance a.instants.now a.positions.now a.observer a.around.0) in it)) in it)) (omega arith)) in it)) in it)) ((let it : back c.seek_least_range-by_minutes.result.offset ≡ c.seek_least_range-by_minutes.result.offset = to_z-of_z w64 c.seek_least_range-by_minutes.result.offset (small-fits c.seek_least_range-by_minutes.result.offset (le_trans ((let it : nat_abs c.seek_least_range-by_minutes.result.offset ≤ reach minutes = let a = c.args in subst (λ (n : LeastRange). nat_abs n.offset ≤ reach minutes) (sym ((let it : c.seek_least_range-by_minutes.result ≡ (let a = c.args in by_minutes a.tolerance a.instants.now a.positions.now a.observer a.around.0) = c.seek_least_range-by_minutes.ensures in it))) (minutes-small a.tolerance a.instants.now a.positions.now a.observer a.around.0) in it)) (omega arith))) in it)) ∙ ap (λ (n : LeastRange). stage (seconds_about n.offset).first n.offset) ((let it : c.seek_least_range-by_minutes.result ≡ (let a = c.args in by_minutes a.tolerance a.instants.now a.positions.now a.observer a.around.0) = c.seek_least_range-by_minutes.ensures in it)) in it))) (seconds-small a.tolerance a.instants.now a.positions.now a.observer a.around.0) in it))) in it) ∙ ap (λ (n : LeastRange). n.offset) ((let it : c.seek_least_range-by_seconds.result ≡ (let a = c.args in by_seconds a.tolerance a.instants.now a.positions.now a.observer a.around.0) = let a = c.args in let stage : ℤ → ℤ → LeastRange = λ first centre. first_best nearer (centred centre) (ranges a.tolerance a.instants.now a.positions.now a.observer a.around.0 (record { first = first; step = 1; count = 121 })) in c.seek_least_range-by_seconds.ensures ∙ ap₂ stage ((let it : back (back c.seek_least_range-by_minutes.result.offset -ℤ pos 60) ≡ ((seconds_about c.seek_least_range-by_minutes.result.offset).first) = ap back ((let it : back c.seek_least_range-by_minutes.result.offset -ℤ pos 60 ≡ ((seconds_about c.seek_least_range-by_minutes.result.offset).first) = ap (λ (z : ℤ). z -ℤ pos 60) ((let it : back c.seek_least_range-by_minutes.result.offset ≡ c.seek_least_range-by_minutes.result.offset = to_z-of_z w64 c.seek_least_range-by_minutes.result.offset (small-fits c.seek_least_range-by_minutes.result.offset (le_trans ((let it : nat_abs c.seek_least_range-by_minutes.result.offset ≤ reach minutes = let a = c.args in subst (λ (n : LeastRange). nat_abs n.offset ≤ reach minutes) (sym ((let it : c.seek_least_range-by_minutes.result ≡ (let a = c.args in by_minutes a.tolerance a.instants.now a.positions.now a.observer a.around.0) = c.seek_least_range-by_minutes.ensures in it))) (minutes-small a.tolerance a.instants.now a.positions.now a.observer a.around.0) in it)) (omega arith))) in it)) in it)) ∙ to_z-of_z w64 (((seconds_about c.seek_least_range-by_minutes.result.offset).first)) ((let it : SFits w64 (((seconds_about c.seek_least_range-by_minutes.result.offset).first)) = small-fits (((seconds_about c.seek_least_range-by_minutes.result.offset).first)) (le_trans ((let it : nat_abs (((seconds_about c.seek_least_range-by_minutes.result.offset).first)) ≤ reach minutes + 60 = before_small c.seek_least_range-by_minutes.result.offset (reach minutes) ((let it : nat_abs c.seek_least_range-by_minutes.result.offset ≤ reach minutes = let a = c.args in subst (λ (n : LeastRange). nat_abs n.offset ≤ reach minutes) (sym ((let it : c.seek_least_range-by_minutes.result ≡ (let a = c.args in by_minutes a.tolerance a.instants.now a.positions.now a.observer a.around.0) = c.seek_least_range-by_minutes.ensures in it))) (minutes-small a.tolerance a.instants.now a.positions.now a.observer a.around.0) in it)) in it)) (omega arith)) in it)) in it)) ((let it : back c.seek_least_range-by_minutes.result.offset ≡ c.seek_least_range-by_minutes.result.offset = to_z-of_z w64 c.seek_least_range-by_minutes.result.offset (small-fits c.seek_least_range-by_minutes.result.offset (le_trans ((let it : nat_abs c.seek_least_range-by_minutes.result.offset ≤ reach minutes = let a = c.args in subst (λ (n : LeastRange). nat_abs n.offset ≤ reach minutes) (sym ((let it : c.seek_least_range-by_minutes.result ≡ (let a = c.args in by_minutes a.tolerance a.instants.now a.positions.now a.observer a.around.0) = c.seek_least_range-by_minutes.ensures in it))) (minutes-small a.tolerance a.instants.now a.positions.now a.observer a.around.0) in it)) (omega arith))) in it)) ∙ ap (λ (n : LeastRange). stage (seconds_about n.offset).first n.offset) ((let it : c.seek_least_range-by_minutes.result ≡ (let a = c.args in by_minutes a.tolerance a.instants.now a.positions.now a.observer a.around.0) = c.seek_least_range-by_minutes.ensures in it)) in it)))
+    let a = c.args in
+    c.moved_by_seconds.ensures ∙ moved_is a.tolerance a.instants.now a.positions.now a.observer a.around.0 c.seek_least_range-by_minutes.result c.seek_least_range-by_minutes.ensures c.seek_least_range-by_seconds.result c.seek_least_range-by_seconds.ensures

@@ -10,18 +10,21 @@ use Rattle.orbit.proofs.Offsets.{back, near_is, seconds_fit, later-fits}
 use Rattle.orbit.proofs.closest.moved_by_seconds.Goals as goal
 use Rattle.orbit.proofs.closest.moved_by_seconds.Goals.{Start}
 
--- the product and the sum as the machine has them
-product : (c : Start) → back c.args.offset *ℤ pos second ≡ c.args.offset *ℤ pos second
-product c = ap (λ (z : ℤ). z *ℤ pos second) (to_z-of_z w64 c.args.offset c.ranges.offset)
-
-sum : (c : Start) → back c.args.t.0 +ℤ back (back c.args.offset *ℤ pos second) ≡ moved_by_seconds c.args.t.0 c.args.offset
-sum c = ap₂ ◌+ℤ◌ (near_is c.args.t.0 c.requires.0) (ap back (product c) ∙ to_z-of_z w64 (c.args.offset *ℤ pos second) (seconds_fit c.args.offset c.requires.1))
-
 pub overflow_mul-result : goal.overflow_mul-result
-overflow_mul-result s = subst (SFits w64) (sym (product s)) (seconds_fit s.args.offset s.requires.1)
+overflow_mul-result c =
+    let product : back c.args.offset *ℤ pos second ≡ c.args.offset *ℤ pos second = ap (λ (z : ℤ). z *ℤ pos second) (to_z-of_z w64 c.args.offset c.ranges.offset) in
+    subst (SFits w64) (sym product) (seconds_fit c.args.offset c.requires.1)
 
 pub overflow_add-result : goal.overflow_add-result
-overflow_add-result c = subst (SFits w64) (sym ((let it : back c.args.t.0 +ℤ back (back c.args.offset *ℤ pos second) ≡ moved_by_seconds c.args.t.0 c.args.offset = ap₂ ◌+ℤ◌ (near_is c.args.t.0 c.requires.0) (ap back ((let it : back c.args.offset *ℤ pos second ≡ c.args.offset *ℤ pos second = ap (λ (z : ℤ). z *ℤ pos second) (to_z-of_z w64 c.args.offset c.ranges.offset) in it)) ∙ to_z-of_z w64 (c.args.offset *ℤ pos second) (seconds_fit c.args.offset c.requires.1)) in it))) ((let it : SFits w64 (moved_by_seconds c.args.t.0 c.args.offset) = later-fits c.args.t.0 c.args.offset c.requires.0 c.requires.1 in it))
+overflow_add-result c =
+    let product : back c.args.offset *ℤ pos second ≡ c.args.offset *ℤ pos second = ap (λ (z : ℤ). z *ℤ pos second) (to_z-of_z w64 c.args.offset c.ranges.offset) in
+    let sum : back c.args.t.0 +ℤ back (back c.args.offset *ℤ pos second) ≡ moved_by_seconds c.args.t.0 c.args.offset = ap₂ ◌+ℤ◌ (near_is c.args.t.0 c.requires.0) (ap back product ∙ to_z-of_z w64 (c.args.offset *ℤ pos second) (seconds_fit c.args.offset c.requires.1)) in
+    let moved_fits : SFits w64 (moved_by_seconds c.args.t.0 c.args.offset) = later-fits c.args.t.0 c.args.offset c.requires.0 c.requires.1 in
+    subst (SFits w64) (sym sum) moved_fits
 
 pub returns : goal.returns
-returns c = ap back ((let it : back c.args.t.0 +ℤ back (back c.args.offset *ℤ pos second) ≡ moved_by_seconds c.args.t.0 c.args.offset = ap₂ ◌+ℤ◌ (near_is c.args.t.0 c.requires.0) (ap back ((let it : back c.args.offset *ℤ pos second ≡ c.args.offset *ℤ pos second = ap (λ (z : ℤ). z *ℤ pos second) (to_z-of_z w64 c.args.offset c.ranges.offset) in it)) ∙ to_z-of_z w64 (c.args.offset *ℤ pos second) (seconds_fit c.args.offset c.requires.1)) in it)) ∙ to_z-of_z w64 (moved_by_seconds c.args.t.0 c.args.offset) ((let it : SFits w64 (moved_by_seconds c.args.t.0 c.args.offset) = later-fits c.args.t.0 c.args.offset c.requires.0 c.requires.1 in it))
+returns c =
+    let product : back c.args.offset *ℤ pos second ≡ c.args.offset *ℤ pos second = ap (λ (z : ℤ). z *ℤ pos second) (to_z-of_z w64 c.args.offset c.ranges.offset) in
+    let sum : back c.args.t.0 +ℤ back (back c.args.offset *ℤ pos second) ≡ moved_by_seconds c.args.t.0 c.args.offset = ap₂ ◌+ℤ◌ (near_is c.args.t.0 c.requires.0) (ap back product ∙ to_z-of_z w64 (c.args.offset *ℤ pos second) (seconds_fit c.args.offset c.requires.1)) in
+    let moved_fits : SFits w64 (moved_by_seconds c.args.t.0 c.args.offset) = later-fits c.args.t.0 c.args.offset c.requires.0 c.requires.1 in
+    ap back sum ∙ to_z-of_z w64 (moved_by_seconds c.args.t.0 c.args.offset) moved_fits

@@ -13,8 +13,11 @@ use Rattle.orbit.proofs.fit.fit_satellite.Goals.{Start}
 
 pub returns-then-refusal-ne0 : goal.returns-then-refusal-ne0
 returns-then-refusal-ne0 c =
+    let failing_of = let a = c.args in first_failing (fit_checks a.instants.now a.positions.now a.samples.now a.frequencies.now a.observer a.f0 a.measured.0) in
+    let fit_by =
+    let a = c.args in fit_of (inputs_of a.instants.now a.positions.now (settings_of a.observer a.f0 even_tolerance)) (recording a.samples.now a.frequencies.now) (given a.measured.0) in
     let call = c.refuse_fit-refusal in
-    unless_refused_lem call.result ((let a = c.args in first_failing (fit_checks a.instants.now a.positions.now a.samples.now a.frequencies.now a.observer a.f0 a.measured.0))) ((let a = c.args in fit_of (inputs_of a.instants.now a.positions.now (settings_of a.observer a.f0 even_tolerance)) (recording a.samples.now a.frequencies.now) (given a.measured.0))) call.ensures c.if-refusal-ne0.true
+    unless_refused_lem call.result failing_of fit_by call.ensures c.if-refusal-ne0.true
 
 pub fit_about-requires : goal.fit_about-requires
 fit_about-requires c =
@@ -28,5 +31,8 @@ fit_about-requires c =
 pub returns : goal.returns
 unfolding of_bits
 returns c =
+    let failing_of = let a = c.args in first_failing (fit_checks a.instants.now a.positions.now a.samples.now a.frequencies.now a.observer a.f0 a.measured.0) in
+    let fit_by =
+    let a = c.args in fit_of (inputs_of a.instants.now a.positions.now (settings_of a.observer a.f0 even_tolerance)) (recording a.samples.now a.frequencies.now) (given a.measured.0) in
     let check = c.refuse_fit-refusal in
-    c.fit_about.ensures ∙ unless_none check.result ((let a = c.args in first_failing (fit_checks a.instants.now a.positions.now a.samples.now a.frequencies.now a.observer a.f0 a.measured.0))) ((let a = c.args in fit_of (inputs_of a.instants.now a.positions.now (settings_of a.observer a.f0 even_tolerance)) (recording a.samples.now a.frequencies.now) (given a.measured.0))) check.ensures c.if-refusal-ne0.false
+    c.fit_about.ensures ∙ unless_none check.result failing_of fit_by check.ensures c.if-refusal-ne0.false

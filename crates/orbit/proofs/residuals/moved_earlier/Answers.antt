@@ -10,22 +10,24 @@ use Rattle.orbit.proofs.Shifts.{micros_fit, moved-fits}
 use Rattle.orbit.proofs.residuals.moved_earlier.Goals as goal
 use Rattle.orbit.proofs.residuals.moved_earlier.Goals.{Start}
 
--- what is to be worked out
-abbrev earlier : Start → ℤ
-earlier c = c.args.t.0 -ℤ c.args.micros *ℤ pos microsecond
-
--- the product and the difference as the machine has them
-product : (c : Start) → back c.args.micros *ℤ pos microsecond ≡ c.args.micros *ℤ pos microsecond
-product c = ap (λ (z : ℤ). z *ℤ pos microsecond) (to_z-of_z w64 c.args.micros c.ranges.micros)
-
-difference : (c : Start) → back c.args.t.0 -ℤ back (back c.args.micros *ℤ pos microsecond) ≡ earlier c
-difference c = ap₂ ◌-ℤ◌ (near_is c.args.t.0 c.requires.0) (ap back (product c) ∙ to_z-of_z w64 (c.args.micros *ℤ pos microsecond) (micros_fit c.args.micros c.requires.1))
-
 pub overflow_mul-result : goal.overflow_mul-result
-overflow_mul-result s = subst (SFits w64) (sym (product s)) (micros_fit s.args.micros s.requires.1)
+overflow_mul-result c =
+    let product : back c.args.micros *ℤ pos microsecond ≡ c.args.micros *ℤ pos microsecond = ap (λ (z : ℤ). z *ℤ pos microsecond) (to_z-of_z w64 c.args.micros c.ranges.micros) in
+    subst (SFits w64) (sym product) (micros_fit c.args.micros c.requires.1)
 
 pub overflow_sub-result : goal.overflow_sub-result
-overflow_sub-result c = subst (SFits w64) (sym ((let it : back c.args.t.0 -ℤ back (back c.args.micros *ℤ pos microsecond) ≡ (c.args.t.0 -ℤ c.args.micros *ℤ pos microsecond) = ap₂ ◌-ℤ◌ (near_is c.args.t.0 c.requires.0) (ap back ((let it : back c.args.micros *ℤ pos microsecond ≡ c.args.micros *ℤ pos microsecond = ap (λ (z : ℤ). z *ℤ pos microsecond) (to_z-of_z w64 c.args.micros c.ranges.micros) in it)) ∙ to_z-of_z w64 (c.args.micros *ℤ pos microsecond) (micros_fit c.args.micros c.requires.1)) in it))) ((let it : SFits w64 ((c.args.t.0 -ℤ c.args.micros *ℤ pos microsecond)) = moved-fits c.args.t.0 c.args.micros c.requires.0 c.requires.1 in it))
+overflow_sub-result c =
+    let product : back c.args.micros *ℤ pos microsecond ≡ c.args.micros *ℤ pos microsecond = ap (λ (z : ℤ). z *ℤ pos microsecond) (to_z-of_z w64 c.args.micros c.ranges.micros) in
+    let difference : back c.args.t.0 -ℤ back (back c.args.micros *ℤ pos microsecond) ≡ (c.args.t.0 -ℤ c.args.micros *ℤ pos microsecond) =
+    ap₂ ◌-ℤ◌ (near_is c.args.t.0 c.requires.0) (ap back product ∙ to_z-of_z w64 (c.args.micros *ℤ pos microsecond) (micros_fit c.args.micros c.requires.1)) in
+    let earlier_fits : SFits w64 ((c.args.t.0 -ℤ c.args.micros *ℤ pos microsecond)) = moved-fits c.args.t.0 c.args.micros c.requires.0 c.requires.1 in
+    subst (SFits w64) (sym difference) earlier_fits
 
 pub returns : goal.returns
-returns c = ap back ((let it : back c.args.t.0 -ℤ back (back c.args.micros *ℤ pos microsecond) ≡ (c.args.t.0 -ℤ c.args.micros *ℤ pos microsecond) = ap₂ ◌-ℤ◌ (near_is c.args.t.0 c.requires.0) (ap back ((let it : back c.args.micros *ℤ pos microsecond ≡ c.args.micros *ℤ pos microsecond = ap (λ (z : ℤ). z *ℤ pos microsecond) (to_z-of_z w64 c.args.micros c.ranges.micros) in it)) ∙ to_z-of_z w64 (c.args.micros *ℤ pos microsecond) (micros_fit c.args.micros c.requires.1)) in it)) ∙ to_z-of_z w64 ((c.args.t.0 -ℤ c.args.micros *ℤ pos microsecond)) ((let it : SFits w64 ((c.args.t.0 -ℤ c.args.micros *ℤ pos microsecond)) = moved-fits c.args.t.0 c.args.micros c.requires.0 c.requires.1 in it))
+returns c =
+    let product : back c.args.micros *ℤ pos microsecond ≡ c.args.micros *ℤ pos microsecond = ap (λ (z : ℤ). z *ℤ pos microsecond) (to_z-of_z w64 c.args.micros c.ranges.micros) in
+    let difference : back c.args.t.0 -ℤ back (back c.args.micros *ℤ pos microsecond) ≡ (c.args.t.0 -ℤ c.args.micros *ℤ pos microsecond) =
+    ap₂ ◌-ℤ◌ (near_is c.args.t.0 c.requires.0) (ap back product ∙ to_z-of_z w64 (c.args.micros *ℤ pos microsecond) (micros_fit c.args.micros c.requires.1)) in
+    let earlier = c.args.t.0 -ℤ c.args.micros *ℤ pos microsecond in
+    let earlier_fits : SFits w64 ((c.args.t.0 -ℤ c.args.micros *ℤ pos microsecond)) = moved-fits c.args.t.0 c.args.micros c.requires.0 c.requires.1 in
+    ap back difference ∙ to_z-of_z w64 earlier earlier_fits

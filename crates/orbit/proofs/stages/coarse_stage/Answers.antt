@@ -18,7 +18,9 @@ run_stage-best-requires c =
 pub returns-then-not-magnitude : goal.returns-then-not-magnitude
 unfolding of_bits
 returns-then-not-magnitude c =
-    (let it : c.run_stage-best.result ≡ after_stage ((let a = c.args in trial_by a.instants.now a.positions.now a.samples.now a.frequencies.now a.settings)) (coarse_stage c.args.centre.0) (state none_yet) = c.run_stage-best.ensures ∙ ap (λ (x : Stage). after_stage ((let a = c.args in trial_by a.instants.now a.positions.now a.samples.now a.frequencies.now a.settings)) x (state none_yet)) c.coarse_about.ensures in it) ∙ coarse-one ((let a = c.args in trial_by a.instants.now a.positions.now a.samples.now a.frequencies.now a.settings)) c.args.centre.0 (ap (lt five) (sym c.magnitude.ensures) ∙ c.if-not-magnitude.true)
+    let try_of = let a = c.args in trial_by a.instants.now a.positions.now a.samples.now a.frequencies.now a.settings in
+    let first_is : c.run_stage-best.result ≡ after_stage ((let a = c.args in trial_by a.instants.now a.positions.now a.samples.now a.frequencies.now a.settings)) (coarse_stage c.args.centre.0) (state none_yet) = c.run_stage-best.ensures ∙ ap (λ (x : Stage). after_stage try_of x (state none_yet)) c.coarse_about.ensures in
+    first_is ∙ coarse-one try_of c.args.centre.0 (ap (lt five) (sym c.magnitude.ensures) ∙ c.if-not-magnitude.true)
 
 pub run_stage-requires : goal.run_stage-requires
 unfolding of_bits
@@ -29,6 +31,8 @@ run_stage-requires c =
 pub returns : goal.returns
 unfolding of_bits
 returns c =
+    let try_of = let a = c.args in trial_by a.instants.now a.positions.now a.samples.now a.frequencies.now a.settings in
+    let first_is : c.run_stage-best.result ≡ after_stage ((let a = c.args in trial_by a.instants.now a.positions.now a.samples.now a.frequencies.now a.settings)) (coarse_stage c.args.centre.0) (state none_yet) = c.run_stage-best.ensures ∙ ap (λ (x : Stage). after_stage try_of x (state none_yet)) c.coarse_about.ensures in
     c.run_stage.ensures
-    ∙ ap₂ (after_stage ((let a = c.args in trial_by a.instants.now a.positions.now a.samples.now a.frequencies.now a.settings))) c.coarse_about-2.ensures ((let it : c.run_stage-best.result ≡ after_stage ((let a = c.args in trial_by a.instants.now a.positions.now a.samples.now a.frequencies.now a.settings)) (coarse_stage c.args.centre.0) (state none_yet) = c.run_stage-best.ensures ∙ ap (λ (x : Stage). after_stage ((let a = c.args in trial_by a.instants.now a.positions.now a.samples.now a.frequencies.now a.settings)) x (state none_yet)) c.coarse_about.ensures in it))
-    ∙ coarse-two ((let a = c.args in trial_by a.instants.now a.positions.now a.samples.now a.frequencies.now a.settings)) c.args.centre.0 (ap (lt five) (sym c.magnitude.ensures) ∙ c.if-not-magnitude.false)
+    ∙ ap₂ (after_stage try_of) c.coarse_about-2.ensures first_is
+    ∙ coarse-two try_of c.args.centre.0 (ap (lt five) (sym c.magnitude.ensures) ∙ c.if-not-magnitude.false)

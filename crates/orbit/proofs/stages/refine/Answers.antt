@@ -17,12 +17,17 @@ run_stage-fine-requires c =
 
 pub run_stage-requires : goal.run_stage-requires
 run_stage-requires c =
+    let try_of = let a = c.args in trial_by a.instants.now a.positions.now a.samples.now a.frequencies.now a.settings in
+    let fine_is : c.run_stage-fine.result ≡ after_further ((let a = c.args in trial_by a.instants.now a.positions.now a.samples.now a.frequencies.now a.settings)) fine_stage c.args.best = c.run_stage-fine.ensures ∙ ap (λ (x : Stage). after_stage try_of x c.args.best) c.fine_about.ensures in
+    let small_of : Within farthest_fine c.run_stage-fine.result.shift.0 = subst (λ (x : LeastSoFar). Within farthest_fine x.shift.0) (sym fine_is) (fine_small try_of (shift_is _ _) c.args.best c.requires.1) in
     let call = c.run_stage-fine in
-    (still_fitting call.new.values call.auto.values c.requires.0, subst SmallStage (sym c.micro_about.ensures) (micro_fits call.result.shift.0 ((let it : Within farthest_fine c.run_stage-fine.result.shift.0 = subst (λ (x : LeastSoFar). Within farthest_fine x.shift.0) (sym ((let it : c.run_stage-fine.result ≡ after_further ((let a = c.args in trial_by a.instants.now a.positions.now a.samples.now a.frequencies.now a.settings)) fine_stage c.args.best = c.run_stage-fine.ensures ∙ ap (λ (x : Stage). after_stage ((let a = c.args in trial_by a.instants.now a.positions.now a.samples.now a.frequencies.now a.settings)) x c.args.best) c.fine_about.ensures in it))) (fine_small ((let a = c.args in trial_by a.instants.now a.positions.now a.samples.now a.frequencies.now a.settings)) (shift_is _ _) c.args.best c.requires.1) in it))))
+    (still_fitting call.new.values call.auto.values c.requires.0, subst SmallStage (sym c.micro_about.ensures) (micro_fits call.result.shift.0 small_of))
 
 pub returns : goal.returns
 returns c =
-    let try = (let a = c.args in trial_by a.instants.now a.positions.now a.samples.now a.frequencies.now a.settings) in
+    let try_of = let a = c.args in trial_by a.instants.now a.positions.now a.samples.now a.frequencies.now a.settings in
+    let fine_is : c.run_stage-fine.result ≡ after_further ((let a = c.args in trial_by a.instants.now a.positions.now a.samples.now a.frequencies.now a.settings)) fine_stage c.args.best = c.run_stage-fine.ensures ∙ ap (λ (x : Stage). after_stage try_of x c.args.best) c.fine_about.ensures in
+    let try = try_of in
     c.run_stage.ensures
     ∙ ap (λ (x : Stage). after_stage try x c.run_stage-fine.result) c.micro_about.ensures
-    ∙ ap (after_further try micro_stage) ((let it : c.run_stage-fine.result ≡ after_further ((let a = c.args in trial_by a.instants.now a.positions.now a.samples.now a.frequencies.now a.settings)) fine_stage c.args.best = c.run_stage-fine.ensures ∙ ap (λ (x : Stage). after_stage ((let a = c.args in trial_by a.instants.now a.positions.now a.samples.now a.frequencies.now a.settings)) x c.args.best) c.fine_about.ensures in it))
+    ∙ ap (after_further try micro_stage) fine_is

@@ -17,22 +17,27 @@ table_of c = let a = c.args in propagation_table a.instants.now a.positions.now 
 
 pub returns-then-refusal-ne0 : goal.returns-then-refusal-ne0
 returns-then-refusal-ne0 c =
+    let failing_of = let a = c.args in first_failing (propagation_checks a.instants.now a.positions.now a.instant.0) in
+    let about_of = let a = c.args in model_about even_tolerance a.instants.now a.positions.now a.instant.0 in
     let call = c.refuse_propagation-refusal in
-    c.refused_model.ensures ∙ ap model_answer (unless_refused_lem call.result ((let a = c.args in first_failing (propagation_checks a.instants.now a.positions.now a.instant.0))) ((let a = c.args in model_about even_tolerance a.instants.now a.positions.now a.instant.0)) call.ensures c.if-refusal-ne0.true)
+    c.refused_model.ensures ∙ ap model_answer (unless_refused_lem call.result failing_of about_of call.ensures c.if-refusal-ne0.true)
 
 pub window_start-requires : goal.window_start-requires
 window_start-requires c = let h = table_of c in (h.enough, h.risen)
 
 pub model_at-requires : goal.model_at-requires
 model_at-requires c =
-    let h = (let it : let a = c.args in Table a.instants.now a.positions.now = let a = c.args in propagation_table a.instants.now a.positions.now a.instant.0 (sym c.refuse_propagation-refusal.ensures ∙ c.if-refusal-ne0.false) in it) in
+    let table_of : let a = c.args in Table a.instants.now a.positions.now = let a = c.args in propagation_table a.instants.now a.positions.now a.instant.0 (sym c.refuse_propagation-refusal.ensures ∙ c.if-refusal-ne0.false) in
+    let h = table_of in
     (c.window_start.ensures.0, omega (arith, h.three, c.window_start.ensures.0))
 
 pub returns : goal.returns
 unfolding of_bits
 returns c =
+    let failing_of = let a = c.args in first_failing (propagation_checks a.instants.now a.positions.now a.instant.0) in
+    let about_of = let a = c.args in model_about even_tolerance a.instants.now a.positions.now a.instant.0 in
     let a = c.args in
     let call = c.refuse_propagation-refusal in
     c.model_at.ensures
     ∙ ap (λ (k : ℕ). model_answer (model_at even_tolerance a.instants.now a.positions.now k)) c.window_start.ensures.1
-    ∙ ap model_answer (unless_none call.result ((let a = c.args in first_failing (propagation_checks a.instants.now a.positions.now a.instant.0))) ((let a = c.args in model_about even_tolerance a.instants.now a.positions.now a.instant.0)) call.ensures c.if-refusal-ne0.false)
+    ∙ ap model_answer (unless_none call.result failing_of about_of call.ensures c.if-refusal-ne0.false)

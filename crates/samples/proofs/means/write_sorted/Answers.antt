@@ -1,38 +1,46 @@
 -- The copy, sorted, has the means of the recording, and its seconds never fall, so that they are written run by run. Assumes nothing.
 use mathlib.Core.Path.{◌≡◌, refl, sym, ap, ◌∙◌}
 use mathlib.Core.List.{List}
+use Prim.Native.Nat.{◌≤◌}
 use native.Mathlib.Omega.{arith}
+use lib.IntN.{ℤ}
+use lib.Ieee.{Float}
 use lib.ListN.{length, take}
 use Rattle.common.specs.Outcome.{written}
 use Rattle.samples.specs.Means.{Sample, instants, frequencies}
+use Rattle.samples.specs.Sums.{Recorded}
+use Rattle.samples.specs.Runs.{Limited}
+use lib.Seq.{paste}
+use Rattle.samples.specs.Sorting.{SameBins}
 use Rattle.samples.proofs.Copies.{copied, copy_limited, Sorted, sorted_copy}
 use Rattle.samples.proofs.means.write_sorted.Goals as goal
-use Rattle.samples.proofs.means.write_sorted.Goals.{After-sort_by_seconds, After-sort_by_seconds-arg-4-1}
 
--- the arrays after the copy, where the sort begins
-instants_copied : (c : After-sort_by_seconds-arg-4-1)
-    → let a = c.args in
-    take (length a.instants.now) c.copy_instants.new.to ≡ a.instants.now
-instants_copied c =
-    let a = c.args in
-    let call = c.copy_instants in
-    copied a.sorted_instants.now a.instants.now call.new.to (length a.instants.now) refl call.ensures
+-- the recording, the arrays before the copy, and after it
+module _ (ts : List ℤ) (fs : List Float) (r : Recorded ts fs) (before_us : List ℤ) (before_gs : List Float) (us : List ℤ) (gs : List Float)
+    (e : us ≡ paste before_us 0 ts (length ts)) (q : gs ≡ paste before_gs 0 fs (length ts)) where
+  instants_copied : take (length ts) us ≡ ts
+  instants_copied = copied before_us ts us (length ts) refl e
 
-frequencies_copied : (c : After-sort_by_seconds-arg-4-1)
-    → let a = c.args in
-    take (length a.instants.now) c.copy_frequencies.new.to ≡ a.frequencies.now
-frequencies_copied c =
-    let call = c.copy_frequencies in
-    copied c.args.sorted_frequencies.now c.args.frequencies.now call.new.to (length c.args.instants.now) c.requires.recorded.same call.ensures
+  frequencies_copied : take (length ts) gs ≡ fs
+  frequencies_copied = copied before_gs fs gs (length ts) r.same q
+
+  limited : Limited (take (length ts) us)
+  limited = copy_limited ts fs r us gs instants_copied frequencies_copied
+
+  -- and after the sort
+  sorted : (us' : List ℤ) (gs' : List Float) → length ts ≤ length us → length ts ≤ length gs → length us' ≡ length us → length gs' ≡ length gs → SameBins (length ts) us gs us' gs'
+      → Sorted ts fs us' gs'
+  sorted us' gs' h k l m a = sorted_copy ts fs r us gs instants_copied frequencies_copied us' gs' h k l m a
 
 pub sort_by_seconds-requires : goal.sort_by_seconds-requires
 sort_by_seconds-requires c =
+    let a = c.args in
     let us = c.copy_instants in
     let gs = c.copy_frequencies in
     let room = c.requires.instants_in_bounds_2 in
     let few = c.requires.recorded.few in
     record {
-      limited = copy_limited c.args.instants.now c.args.frequencies.now c.requires.recorded us.new.to gs.new.to (instants_copied c) (frequencies_copied c);
+      limited = limited a.instants.now a.frequencies.now c.requires.recorded a.sorted_instants.now a.sorted_frequencies.now us.new.to gs.new.to us.ensures gs.ensures;
       instants = omega (arith, few, room.0, us.auto.to);
       frequencies = omega (arith, few, room.1, gs.auto.to);
       spare_instants = omega (arith, few, room.2);
@@ -40,18 +48,59 @@ sort_by_seconds-requires c =
     }
 
 pub slice_bounds-write_runs-end-2 : goal.slice_bounds-write_runs-end-2
-slice_bounds-write_runs-end-2 c = sym ((let it : let a = c.args in Sorted a.instants.now a.frequencies.now c.sort_by_seconds.new.instants c.sort_by_seconds.new.frequencies = let ts = c.args.instants.now in let fs = c.args.frequencies.now in let us = c.copy_instants in let gs = c.copy_frequencies in let call = c.sort_by_seconds in let room = c.requires.instants_in_bounds_2 in sorted_copy ts fs c.requires.recorded us.new.to gs.new.to ((let it : let a = c.args in take (length a.instants.now) c.copy_instants.new.to ≡ a.instants.now = let a = c.args in let call = c.copy_instants in copied a.sorted_instants.now a.instants.now call.new.to (length a.instants.now) refl call.ensures in it)) ((let it : let a = c.args in take (length a.instants.now) c.copy_frequencies.new.to ≡ a.frequencies.now = let call = c.copy_frequencies in copied c.args.sorted_frequencies.now c.args.frequencies.now call.new.to (length c.args.instants.now) c.requires.recorded.same call.ensures in it)) call.new.instants call.new.frequencies (omega (arith, c.requires.recorded.few, room.0, us.auto.to)) (omega (arith, c.requires.recorded.few, room.1, gs.auto.to)) call.auto.instants call.auto.frequencies call.ensures.same_bins in it)).instants-long
+slice_bounds-write_runs-end-2 c =
+    let a = c.args in
+    let us = c.copy_instants in
+    let gs = c.copy_frequencies in
+    let sort = c.sort_by_seconds in
+    let room = c.requires.instants_in_bounds_2 in
+    let copy = sorted a.instants.now a.frequencies.now c.requires.recorded a.sorted_instants.now a.sorted_frequencies.now us.new.to gs.new.to us.ensures gs.ensures
+    sort.new.instants sort.new.frequencies (omega (arith, c.requires.recorded.few, room.0, us.auto.to)) (omega (arith, c.requires.recorded.few, room.1, gs.auto.to))
+    sort.auto.instants sort.auto.frequencies sort.ensures.same_bins in
+    sym copy.instants-long
 
 pub slice_bounds-write_runs-end-4 : goal.slice_bounds-write_runs-end-4
 slice_bounds-write_runs-end-4 c =
-    sym ((let it : let a = c.args in Sorted a.instants.now a.frequencies.now c.sort_by_seconds.new.instants c.sort_by_seconds.new.frequencies = let ts = c.args.instants.now in let fs = c.args.frequencies.now in let us = c.copy_instants in let gs = c.copy_frequencies in let call = c.sort_by_seconds in let room = c.requires.instants_in_bounds_2 in sorted_copy ts fs c.requires.recorded us.new.to gs.new.to ((let it : let a = c.args in take (length a.instants.now) c.copy_instants.new.to ≡ a.instants.now = let a = c.args in let call = c.copy_instants in copied a.sorted_instants.now a.instants.now call.new.to (length a.instants.now) refl call.ensures in it)) ((let it : let a = c.args in take (length a.instants.now) c.copy_frequencies.new.to ≡ a.frequencies.now = let call = c.copy_frequencies in copied c.args.sorted_frequencies.now c.args.frequencies.now call.new.to (length c.args.instants.now) c.requires.recorded.same call.ensures in it)) call.new.instants call.new.frequencies (omega (arith, c.requires.recorded.few, room.0, us.auto.to)) (omega (arith, c.requires.recorded.few, room.1, gs.auto.to)) call.auto.instants call.auto.frequencies call.ensures.same_bins in it)).frequencies-long
+    let a = c.args in
+    let us = c.copy_instants in
+    let gs = c.copy_frequencies in
+    let sort = c.sort_by_seconds in
+    let room = c.requires.instants_in_bounds_2 in
+    let copy = sorted a.instants.now a.frequencies.now c.requires.recorded a.sorted_instants.now a.sorted_frequencies.now us.new.to gs.new.to us.ensures gs.ensures
+    sort.new.instants sort.new.frequencies (omega (arith, c.requires.recorded.few, room.0, us.auto.to)) (omega (arith, c.requires.recorded.few, room.1, gs.auto.to))
+    sort.auto.instants sort.auto.frequencies sort.ensures.same_bins in
+    sym copy.frequencies-long
 
 pub write_runs-requires : goal.write_runs-requires
 write_runs-requires c =
-    let copy = (let it : let a = c.args in Sorted a.instants.now a.frequencies.now c.sort_by_seconds.new.instants c.sort_by_seconds.new.frequencies = let ts = c.args.instants.now in let fs = c.args.frequencies.now in let us = c.copy_instants in let gs = c.copy_frequencies in let call = c.sort_by_seconds in let room = c.requires.instants_in_bounds_2 in sorted_copy ts fs c.requires.recorded us.new.to gs.new.to ((let it : let a = c.args in take (length a.instants.now) c.copy_instants.new.to ≡ a.instants.now = let a = c.args in let call = c.copy_instants in copied a.sorted_instants.now a.instants.now call.new.to (length a.instants.now) refl call.ensures in it)) ((let it : let a = c.args in take (length a.instants.now) c.copy_frequencies.new.to ≡ a.frequencies.now = let call = c.copy_frequencies in copied c.args.sorted_frequencies.now c.args.frequencies.now call.new.to (length c.args.instants.now) c.requires.recorded.same call.ensures in it)) call.new.instants call.new.frequencies (omega (arith, c.requires.recorded.few, room.0, us.auto.to)) (omega (arith, c.requires.recorded.few, room.1, gs.auto.to)) call.auto.instants call.auto.frequencies call.ensures.same_bins in it) in
-    let room = c.requires.instants_in_bounds in record { recorded = copy.recorded; never_falls = c.sort_by_seconds.ensures.never_falls; instants_in_bounds = (omega (arith, copy.instants-long, room.0), omega (arith, copy.instants-long, room.1)) }
+    let a = c.args in
+    let us = c.copy_instants in
+    let gs = c.copy_frequencies in
+    let sort = c.sort_by_seconds in
+    let room = c.requires.instants_in_bounds_2 in
+    let copy = sorted a.instants.now a.frequencies.now c.requires.recorded a.sorted_instants.now a.sorted_frequencies.now us.new.to gs.new.to us.ensures gs.ensures
+    sort.new.instants sort.new.frequencies (omega (arith, c.requires.recorded.few, room.0, us.auto.to)) (omega (arith, c.requires.recorded.few, room.1, gs.auto.to))
+    sort.auto.instants sort.auto.frequencies sort.ensures.same_bins in
+    let means_room = c.requires.instants_in_bounds in
+    record {
+      recorded = copy.recorded;
+      never_falls = sort.ensures.never_falls;
+      instants_in_bounds = (omega (arith, copy.instants-long, means_room.0), omega (arith, copy.instants-long, means_room.1));
+    }
 
 pub returns : goal.returns
 returns c =
+    let a = c.args in
+    let us = c.copy_instants in
+    let gs = c.copy_frequencies in
+    let sort = c.sort_by_seconds in
+    let room = c.requires.instants_in_bounds_2 in
+    let copy = sorted a.instants.now a.frequencies.now c.requires.recorded a.sorted_instants.now a.sorted_frequencies.now us.new.to gs.new.to us.ensures gs.ensures
+    sort.new.instants sort.new.frequencies (omega (arith, c.requires.recorded.few, room.0, us.auto.to)) (omega (arith, c.requires.recorded.few, room.1, gs.auto.to))
+    sort.auto.instants sort.auto.frequencies sort.ensures.same_bins in
     let runs = c.write_runs.ensures in
-    let same = ((let it : let a = c.args in Sorted a.instants.now a.frequencies.now c.sort_by_seconds.new.instants c.sort_by_seconds.new.frequencies = let ts = c.args.instants.now in let fs = c.args.frequencies.now in let us = c.copy_instants in let gs = c.copy_frequencies in let call = c.sort_by_seconds in let room = c.requires.instants_in_bounds_2 in sorted_copy ts fs c.requires.recorded us.new.to gs.new.to ((let it : let a = c.args in take (length a.instants.now) c.copy_instants.new.to ≡ a.instants.now = let a = c.args in let call = c.copy_instants in copied a.sorted_instants.now a.instants.now call.new.to (length a.instants.now) refl call.ensures in it)) ((let it : let a = c.args in take (length a.instants.now) c.copy_frequencies.new.to ≡ a.frequencies.now = let call = c.copy_frequencies in copied c.args.sorted_frequencies.now c.args.frequencies.now call.new.to (length c.args.instants.now) c.requires.recorded.same call.ensures in it)) call.new.instants call.new.frequencies (omega (arith, c.requires.recorded.few, room.0, us.auto.to)) (omega (arith, c.requires.recorded.few, room.1, gs.auto.to)) call.auto.instants call.auto.frequencies call.ensures.same_bins in it)).same in record { value = runs.value ∙ ap length same; mean_instants_after = runs.mean_instants_after ∙ ap (λ (S : List Sample). written (instants S) c.args.mean_instants.now) same; mean_frequencies_after = runs.mean_frequencies_after ∙ ap (λ (S : List Sample). written (frequencies S) c.args.mean_frequencies.now) same }
+    record {
+      value = runs.value ∙ ap length copy.same;
+      mean_instants_after = runs.mean_instants_after ∙ ap (λ (S : List Sample). written (instants S) a.mean_instants.now) copy.same;
+      mean_frequencies_after = runs.mean_frequencies_after ∙ ap (λ (S : List Sample). written (frequencies S) a.mean_frequencies.now) copy.same;
+    }

@@ -29,9 +29,10 @@ added : (c : After-micros-1)
     → let ts = c.args.instants.now in
     to_z w64 c.loop-k.micros-bits +ℤ back (quot_z (back (back (get_or ts c.loop-k.k (pos 0)) -ℤ back (get_or ts 0 (pos 0)))) (pos microsecond)) ≡ offset_sum (get_or ts 0 (pos 0)) (take (c.loop-k.k + 1) (recording ts c.args.frequencies.now))
 added c =
+    let near : (k : ℕ) → Near (get_or c.args.instants.now k (pos 0)) = λ k. le_trans (c.requires.recorded.limited k) (omega arith) in
     let at = c.loop-k in
     let ts = c.args.instants.now in
-    ap₂ ◌+ℤ◌ at.invariant.1 (divided (get_or ts at.k (pos 0)) (get_or ts 0 (pos 0)) ((let it : (k : ℕ) → Near (get_or c.args.instants.now k (pos 0)) = λ k. le_trans (c.requires.recorded.limited k) (omega arith) in it) at.k) ((let it : (k : ℕ) → Near (get_or c.args.instants.now k (pos 0)) = λ k. le_trans (c.requires.recorded.limited k) (omega arith) in it) 0) microsecond) ∙ offsets_more ts c.args.frequencies.now c.requires at.k c.loop-k-test.true
+    ap₂ ◌+ℤ◌ at.invariant.1 (divided (get_or ts at.k (pos 0)) (get_or ts 0 (pos 0)) (near at.k) (near 0) microsecond) ∙ offsets_more ts c.args.frequencies.now c.requires at.k c.loop-k-test.true
 
 pub bounds-instants-0 : goal.bounds-instants-0
 bounds-instants-0 c = c.requires.some
@@ -44,15 +45,17 @@ loop-k-init c =
 
 pub overflow_sub-micros : goal.overflow_sub-micros
 overflow_sub-micros c =
+    let near : (k : ℕ) → Near (get_or c.args.instants.now k (pos 0)) = λ k. le_trans (c.requires.recorded.limited k) (omega arith) in
     let ts = c.args.instants.now in
     let k = c.loop-k.k in
-    subtracts (get_or ts k (pos 0)) (get_or ts 0 (pos 0)) ((let it : (k : ℕ) → Near (get_or c.args.instants.now k (pos 0)) = λ k. le_trans (c.requires.recorded.limited k) (omega arith) in it) k) ((let it : (k : ℕ) → Near (get_or c.args.instants.now k (pos 0)) = λ k. le_trans (c.requires.recorded.limited k) (omega arith) in it) 0)
+    subtracts (get_or ts k (pos 0)) (get_or ts 0 (pos 0)) (near k) (near 0)
 
 pub nonzero_div-micros : goal.nonzero_div-micros
 nonzero_div-micros c =
+    let near : (k : ℕ) → Near (get_or c.args.instants.now k (pos 0)) = λ k. le_trans (c.requires.recorded.limited k) (omega arith) in
     let ts = c.args.instants.now in
     let k = c.loop-k.k in
-    (search rules, divides (get_or ts k (pos 0)) (get_or ts 0 (pos 0)) ((let it : (k : ℕ) → Near (get_or c.args.instants.now k (pos 0)) = λ k. le_trans (c.requires.recorded.limited k) (omega arith) in it) k) ((let it : (k : ℕ) → Near (get_or c.args.instants.now k (pos 0)) = λ k. le_trans (c.requires.recorded.limited k) (omega arith) in it) 0) microsecond)
+    (search rules, divides (get_or ts k (pos 0)) (get_or ts 0 (pos 0)) (near k) (near 0) microsecond)
 
 pub overflow_add-micros : goal.overflow_add-micros
 overflow_add-micros c =
@@ -63,12 +66,17 @@ bounds-frequencies-k c = omega (arith, c.requires.recorded.same)
 
 pub loop-k-preserved : goal.loop-k-preserved
 loop-k-preserved c =
+    let near : (k : ℕ) → Near (get_or c.args.instants.now k (pos 0)) = λ k. le_trans (c.requires.recorded.limited k) (omega arith) in
+    let added : let ts = c.args.instants.now in to_z w64 c.loop-k.micros-bits +ℤ back (quot_z (back (back (get_or ts c.loop-k.k (pos 0)) -ℤ back (get_or ts 0 (pos 0)))) (pos microsecond)) ≡ offset_sum (get_or ts 0 (pos 0)) (take (c.loop-k.k + 1) (recording ts c.args.frequencies.now)) =
+    let at = c.loop-k in
+    let ts = c.args.instants.now in
+    ap₂ ◌+ℤ◌ at.invariant.1 (divided (get_or ts at.k (pos 0)) (get_or ts 0 (pos 0)) (near at.k) (near 0) microsecond) ∙ offsets_more ts c.args.frequencies.now c.requires at.k c.loop-k-test.true in
     let at = c.loop-k in
     let ts = c.args.instants.now in
     let fs = c.args.frequencies.now in
     let same = c.requires.recorded.same in (
       omega arith,
-      ap back ((let it : let ts = c.args.instants.now in to_z w64 c.loop-k.micros-bits +ℤ back (quot_z (back (back (get_or ts c.loop-k.k (pos 0)) -ℤ back (get_or ts 0 (pos 0)))) (pos microsecond)) ≡ offset_sum (get_or ts 0 (pos 0)) (take (c.loop-k.k + 1) (recording ts c.args.frequencies.now)) = let at = c.loop-k in let ts = c.args.instants.now in ap₂ ◌+ℤ◌ at.invariant.1 (divided (get_or ts at.k (pos 0)) (get_or ts 0 (pos 0)) ((let it : (k : ℕ) → Near (get_or c.args.instants.now k (pos 0)) = λ k. le_trans (c.requires.recorded.limited k) (omega arith) in it) at.k) ((let it : (k : ℕ) → Near (get_or c.args.instants.now k (pos 0)) = λ k. le_trans (c.requires.recorded.limited k) (omega arith) in it) 0) microsecond) ∙ offsets_more ts c.args.frequencies.now c.requires at.k c.loop-k-test.true in it)) ∙ to_z-of_z w64 (offset_sum (get_or ts 0 (pos 0)) (take (at.k + 1) (recording ts fs))) (offsets_fit ts fs c.requires (at.k + 1) (omega arith)),
+      ap back added ∙ to_z-of_z w64 (offset_sum (get_or ts 0 (pos 0)) (take (at.k + 1) (recording ts fs))) (offsets_fit ts fs c.requires (at.k + 1) (omega arith)),
       sum_step at.hertz fs at.k (length fs) (omega (arith, same)) (omega arith) ∙ at.invariant.2,
     )
 

@@ -22,13 +22,6 @@ by_fields sys l {fy} {fm} {fd} {fh} {fi} {fs} ey em ed eh ei es =
     ∙ ap (λ (f : Field). epoch_by sys fy fm fd fh f (second_in l)) ei
     ∙ ap (epoch_by sys fy fm fd fh fi) es
 
--- ---- the line, and each field that was read, at the place behind it
-abbrev line-year : In-Holds-2 → List ℕ
-line-year c = c.args.line.now
-
-abbrev line_second : In-Holds-pointed_in-2 → List ℕ
-line_second c = (((((c.args.line.now)))))
-
 pub returns-in_default : goal.returns-in_default
 returns-in_default c =
     let a = c.args in
@@ -36,42 +29,75 @@ returns-in_default c =
 
 pub returns-in_default-whole_in : goal.returns-in_default-whole_in
 returns-in_default-whole_in c =
-    sym (by_fields c.args.system ((c.args.line.now)) ((let it : year_in ((c.args.line.now)) ≡ Holds c.in-Holds.year = sym c.whole_in.ensures ∙ c.in-Holds.is in it)) (sym c.whole_in-2.ensures ∙ c.in_default-whole_in.is) refl refl refl refl)
+    let is_year : year_in ((c.args.line.now)) ≡ Holds c.in-Holds.year = sym c.whole_in.ensures ∙ c.in-Holds.is in
+    sym (by_fields c.args.system (c.args.line.now) is_year (sym c.whole_in-2.ensures ∙ c.in_default-whole_in.is) refl refl refl refl)
 
 pub returns-in_default-whole_in-2 : goal.returns-in_default-whole_in-2
 returns-in_default-whole_in-2 c =
-    sym (by_fields c.args.system (((c.args.line.now))) ((let it : year_in ((c.args.line.now)) ≡ Holds c.in-Holds.year = sym c.whole_in.ensures ∙ c.in-Holds.is in it)) ((let it : month_in (((c.args.line.now))) ≡ Holds c.in-Holds-whole_in.month = sym c.whole_in-2.ensures ∙ c.in-Holds-whole_in.is in it)) (sym c.whole_in-3.ensures ∙ c.in_default-whole_in-2.is) refl refl refl)
+    let is_year : year_in ((c.args.line.now)) ≡ Holds c.in-Holds.year = sym c.whole_in.ensures ∙ c.in-Holds.is in
+    let is_month : month_in (((c.args.line.now))) ≡ Holds c.in-Holds-whole_in.month = sym c.whole_in-2.ensures ∙ c.in-Holds-whole_in.is in
+    sym (by_fields c.args.system (c.args.line.now) is_year is_month (sym c.whole_in-3.ensures ∙ c.in_default-whole_in-2.is) refl refl refl)
 
 pub returns-in_default-whole_in-3 : goal.returns-in_default-whole_in-3
 returns-in_default-whole_in-3 c =
-    sym (by_fields c.args.system ((((c.args.line.now)))) ((let it : year_in ((c.args.line.now)) ≡ Holds c.in-Holds.year = sym c.whole_in.ensures ∙ c.in-Holds.is in it)) ((let it : month_in (((c.args.line.now))) ≡ Holds c.in-Holds-whole_in.month = sym c.whole_in-2.ensures ∙ c.in-Holds-whole_in.is in it)) ((let it : day_in ((((c.args.line.now)))) ≡ Holds c.in-Holds-whole_in-2.day = sym c.whole_in-3.ensures ∙ c.in-Holds-whole_in-2.is in it)) (sym c.whole_in-4.ensures ∙ c.in_default-whole_in-3.is) refl refl)
+    let is_year : year_in ((c.args.line.now)) ≡ Holds c.in-Holds.year = sym c.whole_in.ensures ∙ c.in-Holds.is in
+    let is_month : month_in (((c.args.line.now))) ≡ Holds c.in-Holds-whole_in.month = sym c.whole_in-2.ensures ∙ c.in-Holds-whole_in.is in
+    let is_day : day_in ((((c.args.line.now)))) ≡ Holds c.in-Holds-whole_in-2.day = sym c.whole_in-3.ensures ∙ c.in-Holds-whole_in-2.is in
+    sym (by_fields c.args.system (c.args.line.now) is_year is_month is_day (sym c.whole_in-4.ensures ∙ c.in_default-whole_in-3.is) refl refl)
 
 pub returns-in_default-whole_in-4 : goal.returns-in_default-whole_in-4
 returns-in_default-whole_in-4 c =
-    sym (by_fields c.args.system (((((c.args.line.now))))) ((let it : year_in ((c.args.line.now)) ≡ Holds c.in-Holds.year = sym c.whole_in.ensures ∙ c.in-Holds.is in it)) ((let it : month_in (((c.args.line.now))) ≡ Holds c.in-Holds-whole_in.month = sym c.whole_in-2.ensures ∙ c.in-Holds-whole_in.is in it)) ((let it : day_in ((((c.args.line.now)))) ≡ Holds c.in-Holds-whole_in-2.day = sym c.whole_in-3.ensures ∙ c.in-Holds-whole_in-2.is in it)) ((let it : hour_in (((((c.args.line.now))))) ≡ Holds c.in-Holds-whole_in-3.hour = sym c.whole_in-4.ensures ∙ c.in-Holds-whole_in-3.is in it)) (sym c.whole_in-5.ensures ∙ c.in_default-whole_in-4.is) refl)
+    let is_year : year_in ((c.args.line.now)) ≡ Holds c.in-Holds.year = sym c.whole_in.ensures ∙ c.in-Holds.is in
+    let is_month : month_in (((c.args.line.now))) ≡ Holds c.in-Holds-whole_in.month = sym c.whole_in-2.ensures ∙ c.in-Holds-whole_in.is in
+    let is_day : day_in ((((c.args.line.now)))) ≡ Holds c.in-Holds-whole_in-2.day = sym c.whole_in-3.ensures ∙ c.in-Holds-whole_in-2.is in
+    let is_hour : hour_in (((((c.args.line.now))))) ≡ Holds c.in-Holds-whole_in-3.hour = sym c.whole_in-4.ensures ∙ c.in-Holds-whole_in-3.is in
+    sym (by_fields c.args.system (c.args.line.now) is_year is_month is_day is_hour (sym c.whole_in-5.ensures ∙ c.in_default-whole_in-4.is) refl)
 
 pub returns-in_default-pointed_in : goal.returns-in_default-pointed_in
 returns-in_default-pointed_in c =
-    sym (by_fields c.args.system ((((((c.args.line.now)))))) ((let it : year_in ((c.args.line.now)) ≡ Holds c.in-Holds.year = sym c.whole_in.ensures ∙ c.in-Holds.is in it)) ((let it : month_in (((c.args.line.now))) ≡ Holds c.in-Holds-whole_in.month = sym c.whole_in-2.ensures ∙ c.in-Holds-whole_in.is in it)) ((let it : day_in ((((c.args.line.now)))) ≡ Holds c.in-Holds-whole_in-2.day = sym c.whole_in-3.ensures ∙ c.in-Holds-whole_in-2.is in it)) ((let it : hour_in (((((c.args.line.now))))) ≡ Holds c.in-Holds-whole_in-3.hour = sym c.whole_in-4.ensures ∙ c.in-Holds-whole_in-3.is in it)) ((let it : minute_in ((((((c.args.line.now)))))) ≡ Holds c.in-Holds-whole_in-4.minute = sym c.whole_in-5.ensures ∙ c.in-Holds-whole_in-4.is in it)) (sym c.pointed_in.ensures ∙ c.in_default-pointed_in.is))
+    let is_year : year_in ((c.args.line.now)) ≡ Holds c.in-Holds.year = sym c.whole_in.ensures ∙ c.in-Holds.is in
+    let is_month : month_in (((c.args.line.now))) ≡ Holds c.in-Holds-whole_in.month = sym c.whole_in-2.ensures ∙ c.in-Holds-whole_in.is in
+    let is_day : day_in ((((c.args.line.now)))) ≡ Holds c.in-Holds-whole_in-2.day = sym c.whole_in-3.ensures ∙ c.in-Holds-whole_in-2.is in
+    let is_hour : hour_in (((((c.args.line.now))))) ≡ Holds c.in-Holds-whole_in-3.hour = sym c.whole_in-4.ensures ∙ c.in-Holds-whole_in-3.is in
+    let is_minute : minute_in ((((((c.args.line.now)))))) ≡ Holds c.in-Holds-whole_in-4.minute = sym c.whole_in-5.ensures ∙ c.in-Holds-whole_in-4.is in
+    sym (by_fields c.args.system (c.args.line.now) is_year is_month is_day is_hour is_minute (sym c.pointed_in.ensures ∙ c.in_default-pointed_in.is))
 
 pub overflow_cast-c : goal.overflow_cast-c
-overflow_cast-c c = omega (arith, field_small 4 7 4 ((c.args.line.now)) c.in-Holds.year (omega arith) refl ((let it : year_in ((c.args.line.now)) ≡ Holds c.in-Holds.year = sym c.whole_in.ensures ∙ c.in-Holds.is in it)))
+overflow_cast-c c =
+    let is_year : year_in ((c.args.line.now)) ≡ Holds c.in-Holds.year = sym c.whole_in.ensures ∙ c.in-Holds.is in
+    omega (arith, field_small 4 7 4 (c.args.line.now) c.in-Holds.year (omega arith) refl is_year)
 
 pub overflow_cast-c-2 : goal.overflow_cast-c-2
-overflow_cast-c-2 c = omega (arith, field_small 9 10 2 (((c.args.line.now))) c.in-Holds-whole_in.month (omega arith) refl ((let it : month_in (((c.args.line.now))) ≡ Holds c.in-Holds-whole_in.month = sym c.whole_in-2.ensures ∙ c.in-Holds-whole_in.is in it)))
+overflow_cast-c-2 c =
+    let is_month : month_in (((c.args.line.now))) ≡ Holds c.in-Holds-whole_in.month = sym c.whole_in-2.ensures ∙ c.in-Holds-whole_in.is in
+    omega (arith, field_small 9 10 2 (c.args.line.now) c.in-Holds-whole_in.month (omega arith) refl is_month)
 
 pub overflow_cast-c-3 : goal.overflow_cast-c-3
-overflow_cast-c-3 c = omega (arith, field_small 12 13 2 ((((c.args.line.now)))) c.in-Holds-whole_in-2.day (omega arith) refl ((let it : day_in ((((c.args.line.now)))) ≡ Holds c.in-Holds-whole_in-2.day = sym c.whole_in-3.ensures ∙ c.in-Holds-whole_in-2.is in it)))
+overflow_cast-c-3 c =
+    let is_day : day_in ((((c.args.line.now)))) ≡ Holds c.in-Holds-whole_in-2.day = sym c.whole_in-3.ensures ∙ c.in-Holds-whole_in-2.is in
+    omega (arith, field_small 12 13 2 (c.args.line.now) c.in-Holds-whole_in-2.day (omega arith) refl is_day)
 
 pub overflow_cast-c-4 : goal.overflow_cast-c-4
-overflow_cast-c-4 c = omega (arith, field_small 15 16 2 (((((c.args.line.now))))) c.in-Holds-whole_in-3.hour (omega arith) refl ((let it : hour_in (((((c.args.line.now))))) ≡ Holds c.in-Holds-whole_in-3.hour = sym c.whole_in-4.ensures ∙ c.in-Holds-whole_in-3.is in it)))
+overflow_cast-c-4 c =
+    let is_hour : hour_in (((((c.args.line.now))))) ≡ Holds c.in-Holds-whole_in-3.hour = sym c.whole_in-4.ensures ∙ c.in-Holds-whole_in-3.is in
+    omega (arith, field_small 15 16 2 (c.args.line.now) c.in-Holds-whole_in-3.hour (omega arith) refl is_hour)
 
 pub overflow_cast-c-5 : goal.overflow_cast-c-5
-overflow_cast-c-5 c = omega (arith, field_small 18 19 2 ((((((c.args.line.now)))))) c.in-Holds-whole_in-4.minute (omega arith) refl ((let it : minute_in ((((((c.args.line.now)))))) ≡ Holds c.in-Holds-whole_in-4.minute = sym c.whole_in-5.ensures ∙ c.in-Holds-whole_in-4.is in it)))
+overflow_cast-c-5 c =
+    let is_minute : minute_in ((((((c.args.line.now)))))) ≡ Holds c.in-Holds-whole_in-4.minute = sym c.whole_in-5.ensures ∙ c.in-Holds-whole_in-4.is in
+    omega (arith, field_small 18 19 2 (c.args.line.now) c.in-Holds-whole_in-4.minute (omega arith) refl is_minute)
 
 pub overflow_cast-c-6 : goal.overflow_cast-c-6
-overflow_cast-c-6 c = omega (arith, pointed-small false 21 23 31 10 (((((((c.args.line.now))))))) c.in-Holds-pointed_in.second (omega arith) (omega arith) refl ((let it : second_in (((((((c.args.line.now))))))) ≡ Holds c.in-Holds-pointed_in.second = sym c.pointed_in.ensures ∙ c.in-Holds-pointed_in.is in it)))
+overflow_cast-c-6 c =
+    let is_second : second_in (((((((c.args.line.now))))))) ≡ Holds c.in-Holds-pointed_in.second = sym c.pointed_in.ensures ∙ c.in-Holds-pointed_in.is in
+    omega (arith, pointed-small false 21 23 31 10 (c.args.line.now) c.in-Holds-pointed_in.second (omega arith) (omega arith) refl is_second)
 
 pub returns : goal.returns
 returns c =
-    c.epoch_under.ensures ∙ sym (by_fields c.args.system (((((((c.args.line.now))))))) ((let it : year_in ((c.args.line.now)) ≡ Holds c.in-Holds.year = sym c.whole_in.ensures ∙ c.in-Holds.is in it)) ((let it : month_in (((c.args.line.now))) ≡ Holds c.in-Holds-whole_in.month = sym c.whole_in-2.ensures ∙ c.in-Holds-whole_in.is in it)) ((let it : day_in ((((c.args.line.now)))) ≡ Holds c.in-Holds-whole_in-2.day = sym c.whole_in-3.ensures ∙ c.in-Holds-whole_in-2.is in it)) ((let it : hour_in (((((c.args.line.now))))) ≡ Holds c.in-Holds-whole_in-3.hour = sym c.whole_in-4.ensures ∙ c.in-Holds-whole_in-3.is in it)) ((let it : minute_in ((((((c.args.line.now)))))) ≡ Holds c.in-Holds-whole_in-4.minute = sym c.whole_in-5.ensures ∙ c.in-Holds-whole_in-4.is in it)) ((let it : second_in (((((((c.args.line.now))))))) ≡ Holds c.in-Holds-pointed_in.second = sym c.pointed_in.ensures ∙ c.in-Holds-pointed_in.is in it)))
+    let is_year : year_in ((c.args.line.now)) ≡ Holds c.in-Holds.year = sym c.whole_in.ensures ∙ c.in-Holds.is in
+    let is_month : month_in (((c.args.line.now))) ≡ Holds c.in-Holds-whole_in.month = sym c.whole_in-2.ensures ∙ c.in-Holds-whole_in.is in
+    let is_day : day_in ((((c.args.line.now)))) ≡ Holds c.in-Holds-whole_in-2.day = sym c.whole_in-3.ensures ∙ c.in-Holds-whole_in-2.is in
+    let is_hour : hour_in (((((c.args.line.now))))) ≡ Holds c.in-Holds-whole_in-3.hour = sym c.whole_in-4.ensures ∙ c.in-Holds-whole_in-3.is in
+    let is_minute : minute_in ((((((c.args.line.now)))))) ≡ Holds c.in-Holds-whole_in-4.minute = sym c.whole_in-5.ensures ∙ c.in-Holds-whole_in-4.is in
+    let is_second : second_in (((((((c.args.line.now))))))) ≡ Holds c.in-Holds-pointed_in.second = sym c.pointed_in.ensures ∙ c.in-Holds-pointed_in.is in
+    c.epoch_under.ensures ∙ sym (by_fields c.args.system (c.args.line.now) is_year is_month is_day is_hour is_minute is_second)

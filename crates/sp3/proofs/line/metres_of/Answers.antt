@@ -21,9 +21,19 @@ returns-then-n-eq0 c = sym (metres_zero c.args.n c.if-n-eq0.true)
 pub returns-then-n : goal.returns-then-n
 unfolding of_bits
 returns-then-n c =
-    ap (λ (v : Float). neg (v ⊘ thousand)) ((let it : c.nearest-x.result ≡ nearest_of (pos c.args.n.digits) = c.nearest-x.ensures ∙ ap nearest_of (to_z_pos w64 c.args.n.digits (omega (arith, c.requires))) in it)) ∙ divided-minus c.args.n.digits c.requires ∙ (let it : (b : Bool) → c.args.n.negative ≡ b → round binary64 b c.args.n.digits steps_in_metre ≡ metres_of c.args.n = λ b. λ e. let n = c.args.n in sym (metres_other n c.if-n-eq0.false ∙ ap (λ (s : Bool). round binary64 s n.digits steps_in_metre) e) in it) true c.if-n.true
+    let own : c.nearest-x.result ≡ nearest_of (pos c.args.n.digits) = c.nearest-x.ensures ∙ ap nearest_of (to_z_pos w64 c.args.n.digits (omega (arith, c.requires))) in
+    let signed : (b : Bool) → c.args.n.negative ≡ b → round binary64 b c.args.n.digits steps_in_metre ≡ metres_of c.args.n =
+    λ b. λ e.
+    let n = c.args.n in
+    sym (metres_other n c.if-n-eq0.false ∙ ap (λ (s : Bool). round binary64 s n.digits steps_in_metre) e) in
+    ap (λ (v : Float). neg (v ⊘ thousand)) own ∙ divided-minus c.args.n.digits c.requires ∙ signed true c.if-n.true
 
 pub returns-else-n : goal.returns-else-n
 unfolding of_bits
 returns-else-n c =
-    ap (λ (v : Float). v ⊘ thousand) ((let it : c.nearest-x.result ≡ nearest_of (pos c.args.n.digits) = c.nearest-x.ensures ∙ ap nearest_of (to_z_pos w64 c.args.n.digits (omega (arith, c.requires))) in it)) ∙ divided_once c.args.n.digits c.requires ∙ (let it : (b : Bool) → c.args.n.negative ≡ b → round binary64 b c.args.n.digits steps_in_metre ≡ metres_of c.args.n = λ b. λ e. let n = c.args.n in sym (metres_other n c.if-n-eq0.false ∙ ap (λ (s : Bool). round binary64 s n.digits steps_in_metre) e) in it) false c.if-n.false
+    let own : c.nearest-x.result ≡ nearest_of (pos c.args.n.digits) = c.nearest-x.ensures ∙ ap nearest_of (to_z_pos w64 c.args.n.digits (omega (arith, c.requires))) in
+    let signed : (b : Bool) → c.args.n.negative ≡ b → round binary64 b c.args.n.digits steps_in_metre ≡ metres_of c.args.n =
+    λ b. λ e.
+    let n = c.args.n in
+    sym (metres_other n c.if-n-eq0.false ∙ ap (λ (s : Bool). round binary64 s n.digits steps_in_metre) e) in
+    ap (λ (v : Float). v ⊘ thousand) own ∙ divided_once c.args.n.digits c.requires ∙ signed false c.if-n.false

@@ -14,32 +14,34 @@ by_fields : (l : List ℕ) {f g h : Field} → x_in l ≡ f → y_in l ≡ g →
 unfolding position_in
 by_fields l {f} {g} {h} p q r = ap (λ (u : Field). position_by u (y_in l) (z_in l)) p ∙ ap (λ (u : Field). position_by f u (z_in l)) q ∙ ap (position_by f g) r
 
--- ---- the line, and each coordinate that was read, at the place behind it
-abbrev line_x : In-Holds-2 → List ℕ
-line_x c = c.args.line.now
-
-abbrev line-y : In-Holds-pointed_in-3 → List ℕ
-line-y c = (c.args.line.now)
-
 pub returns-in_default : goal.returns-in_default
 returns-in_default c =
     sym (by_fields c.args.line.now (sym c.pointed_in.ensures ∙ c.in_default.is) refl refl)
 
 pub returns-in_default-pointed_in : goal.returns-in_default-pointed_in
 returns-in_default-pointed_in c =
-    sym (by_fields ((c.args.line.now)) ((let it : x_in ((c.args.line.now)) ≡ Holds c.in-Holds.x = sym c.pointed_in.ensures ∙ c.in-Holds.is in it)) (sym c.pointed_in-2.ensures ∙ c.in_default-pointed_in.is) refl)
+    let is_x : x_in ((c.args.line.now)) ≡ Holds c.in-Holds.x = sym c.pointed_in.ensures ∙ c.in-Holds.is in
+    sym (by_fields (c.args.line.now) is_x (sym c.pointed_in-2.ensures ∙ c.in_default-pointed_in.is) refl)
 
 pub returns-in_default-pointed_in-2 : goal.returns-in_default-pointed_in-2
 returns-in_default-pointed_in-2 c =
-    sym (by_fields (((c.args.line.now))) ((let it : x_in ((c.args.line.now)) ≡ Holds c.in-Holds.x = sym c.pointed_in.ensures ∙ c.in-Holds.is in it)) ((let it : y_in (((c.args.line.now))) ≡ Holds c.in-Holds-pointed_in.y = sym c.pointed_in-2.ensures ∙ c.in-Holds-pointed_in.is in it)) (sym c.pointed_in-3.ensures ∙ c.in_default-pointed_in-2.is))
+    let is_x : x_in ((c.args.line.now)) ≡ Holds c.in-Holds.x = sym c.pointed_in.ensures ∙ c.in-Holds.is in
+    let is_y : y_in (((c.args.line.now))) ≡ Holds c.in-Holds-pointed_in.y = sym c.pointed_in-2.ensures ∙ c.in-Holds-pointed_in.is in
+    sym (by_fields (c.args.line.now) is_x is_y (sym c.pointed_in-3.ensures ∙ c.in_default-pointed_in-2.is))
 
 pub position_of-requires : goal.position_of-requires
-position_of-requires c = (
-  coordinate_small 5 12 18 ((c.args.line.now)) c.in-Holds.x (omega arith) (omega arith) refl ((let it : x_in ((c.args.line.now)) ≡ Holds c.in-Holds.x = sym c.pointed_in.ensures ∙ c.in-Holds.is in it)),
-  coordinate_small 19 26 32 (((c.args.line.now))) c.in-Holds-pointed_in.y (omega arith) (omega arith) refl ((let it : y_in (((c.args.line.now))) ≡ Holds c.in-Holds-pointed_in.y = sym c.pointed_in-2.ensures ∙ c.in-Holds-pointed_in.is in it)),
-  coordinate_small 33 40 46 ((((c.args.line.now)))) c.in-Holds-pointed_in-2.z (omega arith) (omega arith) refl ((let it : z_in ((((c.args.line.now)))) ≡ Holds c.in-Holds-pointed_in-2.z = sym c.pointed_in-3.ensures ∙ c.in-Holds-pointed_in-2.is in it)),
-)
+position_of-requires c =
+    let is_x : x_in ((c.args.line.now)) ≡ Holds c.in-Holds.x = sym c.pointed_in.ensures ∙ c.in-Holds.is in
+    let is_y : y_in (((c.args.line.now))) ≡ Holds c.in-Holds-pointed_in.y = sym c.pointed_in-2.ensures ∙ c.in-Holds-pointed_in.is in
+    let is_z : z_in ((((c.args.line.now)))) ≡ Holds c.in-Holds-pointed_in-2.z = sym c.pointed_in-3.ensures ∙ c.in-Holds-pointed_in-2.is in (
+      coordinate_small 5 12 18 (c.args.line.now) c.in-Holds.x (omega arith) (omega arith) refl is_x,
+      coordinate_small 19 26 32 (c.args.line.now) c.in-Holds-pointed_in.y (omega arith) (omega arith) refl is_y,
+      coordinate_small 33 40 46 (c.args.line.now) c.in-Holds-pointed_in-2.z (omega arith) (omega arith) refl is_z,
+    )
 
 pub returns : goal.returns
 returns c =
-    c.position_of.ensures ∙ sym (by_fields ((((c.args.line.now)))) ((let it : x_in ((c.args.line.now)) ≡ Holds c.in-Holds.x = sym c.pointed_in.ensures ∙ c.in-Holds.is in it)) ((let it : y_in (((c.args.line.now))) ≡ Holds c.in-Holds-pointed_in.y = sym c.pointed_in-2.ensures ∙ c.in-Holds-pointed_in.is in it)) ((let it : z_in ((((c.args.line.now)))) ≡ Holds c.in-Holds-pointed_in-2.z = sym c.pointed_in-3.ensures ∙ c.in-Holds-pointed_in-2.is in it)))
+    let is_x : x_in ((c.args.line.now)) ≡ Holds c.in-Holds.x = sym c.pointed_in.ensures ∙ c.in-Holds.is in
+    let is_y : y_in (((c.args.line.now))) ≡ Holds c.in-Holds-pointed_in.y = sym c.pointed_in-2.ensures ∙ c.in-Holds-pointed_in.is in
+    let is_z : z_in ((((c.args.line.now)))) ≡ Holds c.in-Holds-pointed_in-2.z = sym c.pointed_in-3.ensures ∙ c.in-Holds-pointed_in-2.is in
+    c.position_of.ensures ∙ sym (by_fields (c.args.line.now) is_x is_y is_z)
