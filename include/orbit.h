@@ -1,6 +1,6 @@
 /* The ship clock's library for C (C11 or C++11), and for any language that calls C.
  *
- * Link with target/staticlib/liborbit_abi.a, made by `rt staticlib orbit_abi`.
+ * Link with target/staticlib/liborbit_abi.a, made by `examples/library`.
  *
  * Every function takes any numbers. Those that can refuse answer the refusal's number, 0 where they answered; results go through the
  * pointers at the end and stay untouched on a refusal (but for the means of orbit_pass under 10). A pointer is to one value of its type,

@@ -1,4 +1,4 @@
-//! Names the static library to the linker: target/staticlib/liborbit_abi.a of the repository, made by `rt staticlib orbit_abi`.
+//! Names the static library to the linker: target/staticlib/liborbit_abi.a of the repository, made by `examples/library`.
 
 use std::path::Path;
 
@@ -8,7 +8,7 @@ fn main() {
     let library = folder.join("liborbit_abi.a");
     assert!(
         library.exists(),
-        "{} is missing; make it with: rt staticlib orbit_abi",
+        "{} is missing; make it with: examples/library",
         library.display()
     );
     println!("cargo::rerun-if-changed={}", library.display());

@@ -12,7 +12,7 @@ mod words;
 
 use numbers::{digit_of, double, signed};
 use std::io;
-use std::io::{BufWriter, Read, Write};
+use std::io::{Read, Write};
 use words::{Doubles, ROOM, Wholes};
 
 // How many letters a name may have.
@@ -159,10 +159,10 @@ fn answer_all(
     Ok(())
 }
 
-// Lends the room: for a read, a name, and the words of a case. What is written goes through a buffer, which is written out before the end.
+// Lends the room: for a read, a name, and the words of a case. What is written goes out at once, through no buffer.
 fn main(rt: HostRuntime) -> io::Result<()> {
     let mut input = rt.stdin();
-    let mut out = BufWriter::new(rt.alloc(), rt.stdout())?;
+    let mut out = rt.stdout();
     let mut chunk = [0u8; CHUNK];
     let mut name = [0u8; LETTERS];
     let mut wholes = [0i64; ROOM];
@@ -174,6 +174,5 @@ fn main(rt: HostRuntime) -> io::Result<()> {
         &mut name,
         &mut wholes,
         &mut doubles,
-    )?;
-    out.flush()
+    )
 }
