@@ -45,7 +45,8 @@ mean_cases = (refl, refl, refl)
 
 -- the sum is from +0, and in list order: of the largest finite double twice and its opposite it passes the range, and from the back it would not
 pub sum_cases : (fleet_board (entry 5 (pos 0) minus_zero one ∷ []) ≡ answered nought)
-    × (fleet_board (entry 5 (pos 0) largest_finite one ∷ entry 6 (pos 0) largest_finite one ∷ entry 7 (pos 0) (neg largest_finite) one ∷ []) ≡ answered (inf false))
+    × (fleet_board (entry 5 (pos 0) largest_finite one ∷ entry 6 (pos 0) largest_finite one ∷ entry 7 (pos 0) (neg largest_finite) one ∷ [])
+    ≡ answered (inf false))
 unfolding placed_from supersedes board_offset those any not_finite first_failing sum_from lt eq neg round add div of_int
 sum_cases = (refl, refl)
 

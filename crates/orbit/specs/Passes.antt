@@ -43,8 +43,10 @@ pass i ts fs instant_area frequency_area = unless_refused (pass_refusal i ts fs 
 
 -- a refusal by a check writes nothing; 10 leaves the means written: they stand at the front, the rest of each area untouched
 abbrev pub pass_instants : Inputs → List ℤ → List Float → List ℤ → List Float → List ℤ
-pass_instants i ts fs instant_area frequency_area = area (pass_refusal i ts fs instant_area frequency_area) (instants (means (recording ts fs))) instant_area
+pass_instants i ts fs instant_area frequency_area =
+    area (pass_refusal i ts fs instant_area frequency_area) (instants (means (recording ts fs))) instant_area
 
 -- the same of the area for frequencies
 abbrev pub pass_frequencies : Inputs → List ℤ → List Float → List ℤ → List Float → List Float
-pass_frequencies i ts fs instant_area frequency_area = area (pass_refusal i ts fs instant_area frequency_area) (frequencies (means (recording ts fs))) frequency_area
+pass_frequencies i ts fs instant_area frequency_area =
+    area (pass_refusal i ts fs instant_area frequency_area) (frequencies (means (recording ts fs))) frequency_area

@@ -112,7 +112,8 @@ model_about tolerance instants positions t = model_at tolerance instants positio
 
 -- the refusal, or the model
 abbrev pub get_chebyshev_model : List ℤ → List Float → ℤ → Outcome ChebyshevOrbit
-get_chebyshev_model instants positions t = unless_refused (first_failing (propagation_checks instants positions t)) (model_about even_tolerance instants positions t)
+get_chebyshev_model instants positions t =
+    unless_refused (first_failing (propagation_checks instants positions t)) (model_about even_tolerance instants positions t)
 
 -- the paper's number and values of the answer: zeros stand beside a refusal
 abbrev pub blank_model : ChebyshevOrbit

@@ -8,7 +8,8 @@ ghost use Rattle.common.specs.Sums.{sum_from};
 ghost use Rattle.orbit.specs.Bounds.{FitAreas, farthest_shift, farthest_micros};
 ghost use Rattle.checks.specs.Checked.{Table};
 ghost use Rattle.orbit.specs.Propagation.{propagated};
-ghost use Rattle.orbit.specs.Residuals.{whole_microseconds, residual_at, residual_in, keep, inputs_of, residuals, residual_of, outside_count, squared_deviation};
+ghost use Rattle.orbit.specs.Residuals.{whole_microseconds, residual_at, residual_in, keep, inputs_of};
+ghost use Rattle.orbit.specs.Residuals.{residuals, residual_of, outside_count, squared_deviation};
 ghost use Rattle.common.specs.Numbers.{minus_zero};
 
 use crate::place::{is_outside, place_of};

@@ -107,7 +107,8 @@ pub wrong : (of_g05 "*  2024  2 30  0  0  0.00000000" ≡ Wrong) × (of_g05 "*  
     × (of_g05 "*  2097  1  1  0  0  0.00000000" ≡ Wrong) × (of_g05 "PG05     1.0000000      0.000000      0.000000" ≡ Wrong)
     × (of_g05 "PG05    - 1.000000      0.000000      0.000000" ≡ Wrong) × (of_g05 "PG05      1.000000      0.000000      0.00000" ≡ Wrong)
     × (of_g05 "PG05" ≡ Wrong)
-unfolding begins line_of epoch_in position_in after_blanks digits_behind some_digits signed_digits with_decimals leap sum days_of_years span climb size odd units round
+unfolding begins line_of epoch_in position_in after_blanks digits_behind some_digits signed_digits with_decimals
+    leap sum days_of_years span climb size odd units round
 wrong = (refl, refl, refl, refl, refl, refl, refl)
 
 -- a P line too short for a satellite, another satellite's, an empty line, and a correlation line
