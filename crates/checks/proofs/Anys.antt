@@ -11,17 +11,14 @@ use Rattle.checks.specs.Checks.{any}
 module _ {A : Type 0} (p : A → Bool) where
   -- of no list
   pub any_empty : any p [] ≡ false
-  unfolding any
   any_empty = refl
 
   -- one element more
   pub any-one : (x : A) (xs : List A) → any p (x ∷ xs) ≡ (p x || any p xs)
-  unfolding any
   any-one x xs = refl
 
   -- where one of a list is such, here it is
   pub any_is : (xs : List A) → T (any p xs) → (x : A) × Memᴰ x xs × T (p x)
-  unfolding any
   any_is [] h = absurd h
   any_is (x ∷ xs) h = go (p x) (λ t. t) h (any_is xs)
     where
@@ -34,7 +31,6 @@ module _ {A : Type 0} (p : A → Bool) where
 
   -- and the other way
   pub is_any : (x : A) (xs : List A) → Memᴰ x xs → T (p x) → T (any p xs)
-  unfolding any
   is_any x [] m t = absurd (Memᴰ.not-nil m)
   is_any x (y ∷ ys) m t = go (p y) (λ e. subst (λ (z : A). T (p z)) e t) (Memᴰ.cases_cons m) (λ n. is_any x ys n t)
     where
@@ -63,6 +59,5 @@ module _ {A : Type 0} (p : A → Bool) where
 
   -- of a list of made ones
   pub any-map : {B : Type 0} (f : B → A) (xs : List B) → any p (map f xs) ≡ any (λ x. p (f x)) xs
-  unfolding any
   any-map {B} f [] = refl
   any-map {B} f (x ∷ xs) = ap (λ (b : Bool). p (f x) || b) (any-map f xs)

@@ -23,13 +23,11 @@ near-one : (t : ℤ) → beyond t ≡ false → nat_abs t ≤ farthest_instant
 near-one t h = ltb-false farthest_instant (nat_abs t) h
 
 near_each : (l : List ℤ) → any beyond l ≡ false → (k : ℕ) → nat_abs (get_or l k (pos 0)) ≤ farthest_instant
-unfolding any
 near_each [] h k = omega arith
 near_each (t ∷ l) h zero = near-one t (neither (beyond t) (any beyond l) h).0
 near_each (t ∷ l) h (suc k) = near_each l (neither (beyond t) (any beyond l) h).1 k
 
 pub none_beyond : (l : List ℤ) → ((k : ℕ) → k < length l → nat_abs (get_or l k (pos 0)) ≤ farthest_instant) → any beyond l ≡ false
-unfolding any
 none_beyond [] h = refl
 none_beyond (t ∷ l) h = rw (le-ltb farthest_instant (nat_abs t) (h 0 (omega arith))) (none_beyond l (λ k s. h (suc k) (omega arith)))
 

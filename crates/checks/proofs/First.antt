@@ -1,6 +1,5 @@
--- The checks of an entry, one after the other from no refusal, give the number of the first that fails; and that is 0 exactly where every check passes, so that
--- each is then read off by its place. Assumes nothing.
-use mathlib.Core.Path.{◌≡◌, refl, sym, ap, ap₂, subst, ◌∙◌}
+-- The number of the first check that fails: by the first of them, and 0 exactly where every check passes, so that each is then read off by its place. Assumes nothing.
+use mathlib.Core.Path.{◌≡◌, refl, sym, ap, subst}
 use mathlib.Core.Bool.{Bool, true, false, not, cond, ◌&&◌, ◌||◌, true≢false}
 use mathlib.Core.List.{List, [], ◌∷◌}
 use Prim.Native.Nat.{ℕ, zero, suc}
@@ -10,7 +9,6 @@ use lib.Dec.{T, T_not, ltb, eqb}
 use lib.ListN.{get_or}
 use lib.Ieee.Fits.{and_l, and_r}
 use Rattle.checks.specs.Entries.{Check, check, first_failing}
-use Rattle.checks.specs.Checked.{or_else}
 
 -- the first check fails, or it passes, or there is none
 pub first-fails : (c : Check) (cs : List Check) → c.fails ≡ true → first_failing (c ∷ cs) ≡ c.number
@@ -29,37 +27,6 @@ none_fails = refl
 unfoldable pub numbered : List Check → Bool
 numbered [] = true
 numbered (c ∷ cs) = ltb 0 c.number && numbered cs
-
--- check after check, from a refusal so far
-unfoldable pub in_turn : ℕ → List Check → ℕ
-in_turn refusal [] = refusal
-in_turn refusal (c ∷ cs) = in_turn (or_else refusal c) cs
-
--- a refusal so far stands
-stands : (n : ℕ) (cs : List Check) → in_turn (suc n) cs ≡ suc n
-unfolding in_turn
-stands n [] = refl
-stands n (c ∷ cs) = stands n cs
-
--- without one, the first that fails
-pub in_turn_lem : (cs : List Check) → T (numbered cs) → in_turn 0 cs ≡ first_failing cs
-unfolding in_turn first_failing numbered
-in_turn_lem [] h = refl
-in_turn_lem (c ∷ cs) h = go c.fails c.number (and_l (ltb 0 c.number) (numbered cs) h) (in_turn_lem cs (and_r (ltb 0 c.number) (numbered cs) h))
-  where
-    go : (b : Bool) (n : ℕ) → T (ltb 0 n) → in_turn 0 cs ≡ first_failing cs → in_turn (cond b n 0) cs ≡ cond b n (first_failing cs)
-    go true zero p rest = absurd p
-    go true (suc n) p rest = stands n cs
-    go false n p rest = rest
-
--- one check more, by what the code found of it
-pub one_more : (n : ℕ) {r r' x : ℕ} {found fails : Bool} → r ≡ x → r' ≡ or_else r (check n found) → found ≡ fails → r' ≡ or_else x (check n fails)
-one_more n e said f = said ∙ ap₂ (λ (k : ℕ) (b : Bool). or_else k (check n b)) e f
-
--- a refusal so far, as the code tests it
-pub refused_already : (r : ℕ) (c : Check) → (r ≡ 0 → ⊥) → r ≡ or_else r c
-refused_already zero c h = absurd (h refl)
-refused_already (suc n) c h = refl
 
 -- where the number is 0, the check at each place passes
 pub passes : (cs : List Check) (k : ℕ) → T (numbered cs) → first_failing cs ≡ 0 → (get_or cs k (check 0 false)).fails ≡ false

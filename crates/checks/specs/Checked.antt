@@ -1,8 +1,7 @@
 -- Inner: what holds of inputs that passed their checks, which the functions behind an entry rely on.
-use Rattle.std.specs.Prelude.{ℕ, zero, suc, ◌*◌, ◌≤◌, ◌<◌, ◌≡◌, false, cond, List, ℤ, pos, nat_abs, Float, length, get_or}
+use Rattle.std.specs.Prelude.{ℕ, ◌*◌, ◌≤◌, ◌<◌, ◌≡◌, false, List, ℤ, pos, nat_abs, Float, length, get_or}
 use Rattle.checks.specs.Limits.{least_coordinates, most_coordinates, axes, most_samples, farthest_instant}
 use Rattle.checks.specs.Checks.{unrising}
-use Rattle.checks.specs.Entries.{Check}
 
 -- the coordinates: how many, in which order and how far from 1970 (checks 1, 4, 5)
 pub record Table (instants : List ℤ) (positions : List Float) : Type 0 where
@@ -18,8 +17,3 @@ pub record Samples (samples : List ℤ) (frequencies : List Float) : Type 0 wher
   pub few : length samples ≤ most_samples
   pub same : length frequencies ≡ length samples
   pub near : (k : ℕ) → nat_abs (get_or samples k (pos 0)) ≤ farthest_instant
-
--- one check more: a refusal so far stands, and without one a check that fails gives its number
-abbrev pub or_else : ℕ → Check → ℕ
-or_else zero c = cond c.fails c.number 0
-or_else (suc n) c = suc n

@@ -1,5 +1,6 @@
 -- Checks 1 to 7 of document 01: each says when it fails. Where its words have a number, "…" stands for it: Limits has them all.
 use Rattle.std.specs.Prelude.{◌*◌, Bool, true, false, not, ◌&&◌, ◌||◌, List, [], ◌∷◌, ltb, eqb, ℤ, nat_abs, length, Float}
+use Rattle.std.specs.List.{list_any}
 use Rattle.std.specs.Int.Signed.{lt_z}
 use Rattle.std.specs.Float.{nan, inf, fin}
 use Rattle.std.specs.Float.Ieee.{lt, le}
@@ -8,10 +9,9 @@ use Rattle.units.specs.declared.Observer.{Observer}
 use Rattle.checks.specs.Limits.{least_coordinates, most_coordinates, axes, most_samples, farthest_instant, largest_component, least_component}
 use Rattle.common.specs.Numbers.{nought}
 
--- whether one of a list is such
-unfoldable pub any : {A : Type 0} → (A → Bool) → List A → Bool
-any p [] = false
-any p (x ∷ xs) = p x || any p xs
+-- whether one of a list is such: the library's test
+abbrev pub any : {A : Type 0} → (A → Bool) → List A → Bool
+any p xs = list_any p xs
 
 -- 1. "Fewer than … or more than … coordinates, or a position slice that is not three times as long as the instants"
 abbrev pub miscounted : List ℤ → List Float → Bool

@@ -2,9 +2,7 @@
 ghost use Rattle.std.specs.Prelude.{◌≡◌};
 ghost use Rattle.checks.specs.Checks.{any, miscounted, unsampled, too_short, beyond, unrising};
 
-use crate::limits::{
-    AXES, EARLIEST_INSTANT, LATEST_INSTANT, LEAST_COORDINATES, MOST_COORDINATES, MOST_SAMPLES,
-};
+use crate::limits::{AXES, FARTHEST_INSTANT, LEAST_COORDINATES, MOST_COORDINATES, MOST_SAMPLES};
 use units::Nanoseconds;
 
 // Check 1: too few or too many coordinates, or positions that are not three doubles each.
@@ -12,13 +10,7 @@ pub(crate) fn miscounted(instants: &[i64], positions: &[f64]) -> bool
     ensures { result ≡ miscounted instants.now positions.now }
 {
     let n = instants.len();
-    if n < LEAST_COORDINATES {
-        return true;
-    }
-    if n > MOST_COORDINATES {
-        return true;
-    }
-    positions.len() != AXES * n
+    n < LEAST_COORDINATES || n > MOST_COORDINATES || positions.len() != AXES * n
 }
 
 // Check 2: no sample, too many, or slices of unequal length.
@@ -26,59 +18,36 @@ pub(crate) fn unsampled(instants: &[i64], frequencies: &[f64]) -> bool
     ensures { result ≡ unsampled instants.now frequencies.now }
 {
     let count = instants.len();
-    if count == 0 {
-        return true;
-    }
-    if count > MOST_SAMPLES {
-        return true;
-    }
-    frequencies.len() != count
+    count == 0 || count > MOST_SAMPLES || frequencies.len() != count
 }
 
 // Check 3: a result area shorter than the number of samples.
 pub(crate) fn too_short(samples: &[i64], instant_area: &[i64], frequency_area: &[f64]) -> bool
     ensures { result ≡ too_short samples.now instant_area.now frequency_area.now }
 {
-    if instant_area.len() < samples.len() {
-        return true;
-    }
-    frequency_area.len() < samples.len()
+    instant_area.len() < samples.len() || frequency_area.len() < samples.len()
 }
 
 // Check 4: an instant past 4,000,000,000,000,000,000 ns either way.
 pub fn beyond(t: Nanoseconds) -> bool
     ensures { result ≡ beyond t.0 }
 {
-    if t.0 > LATEST_INSTANT {
-        return true;
-    }
-    t.0 < EARLIEST_INSTANT
+    t.0.unsigned_abs() > FARTHEST_INSTANT
 }
 
 // Check 4 of a slice.
 pub(crate) fn any_beyond(instants: &[i64]) -> bool
     ensures { result ≡ any beyond instants.now }
 {
-    for i in 0..instants.len() {
-        if beyond(Nanoseconds(instants[i])) {
-            return true;
-        }
-    }
-    false
+    instants.iter().any(|t| beyond(Nanoseconds(*t)))
 }
 
 // Check 5: instants that do not strictly rise.
 pub(crate) fn unrising(instants: &[i64]) -> bool
     ensures { result ≡ unrising instants.now }
 {
-    let n = instants.len();
-    if n == 0 {
-        return false;
-    }
-    for i in 1..n {
-        if instants[i - 1] >= instants[i] {
-            return true;
-        }
-    }
-    false
+    instants
+        .iter()
+        .zip(instants.iter().skip(1))
+        .any(|(a, b)| *a >= *b)
 }

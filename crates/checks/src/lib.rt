@@ -1,5 +1,4 @@
 // Checks 1 to 7 of document 01, each one function proved equal to its definition, and the first that fails for each entry.
-// A refusal is its number; 0 is none.
 #![tactic(auto)]
 
 mod entries;
@@ -7,11 +6,15 @@ mod instants;
 mod limits;
 mod numbers;
 mod places;
+mod recording;
+mod table;
 
 pub use entries::{
     refuse_closest, refuse_evaluation, refuse_fit, refuse_means, refuse_pass, refuse_propagation,
     refuse_samples,
 };
 pub use instants::beyond;
-pub use limits::{AXES, LATEST_INSTANT, MOST_COORDINATES, MOST_SAMPLES};
+pub use limits::{AXES, FARTHEST_INSTANT, MOST_COORDINATES, MOST_SAMPLES};
 pub use numbers::not_finite;
+pub use recording::Recording;
+pub use table::OrbitTable;

@@ -1,4 +1,4 @@
-// The numbers of the checks by name; specs/Limits.antt has their twins (both ends of an instant's range as one magnitude).
+// The numbers of the checks by name; specs/Limits.antt has their twins.
 
 // The fewest coordinates that a table may have.
 pub const LEAST_COORDINATES: usize = 10;
@@ -12,11 +12,8 @@ pub const AXES: usize = 3;
 // The most samples that a recording may have.
 pub const MOST_SAMPLES: usize = 1312;
 
-// The earliest instant that is taken, in nanoseconds from 1970-01-01.
-pub const EARLIEST_INSTANT: i64 = -4_000_000_000_000_000_000;
-
-// The latest instant that is taken, in nanoseconds from 1970-01-01.
-pub const LATEST_INSTANT: i64 = 4_000_000_000_000_000_000;
+// The largest magnitude of an instant, in nanoseconds from 1970-01-01.
+pub const FARTHEST_INSTANT: u64 = 4_000_000_000_000_000_000;
 
 // The largest magnitude of a position's component, in metres.
 pub const LARGEST_COMPONENT: f64 = 100000000.0;

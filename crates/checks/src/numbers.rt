@@ -2,33 +2,23 @@
 ghost use Rattle.std.specs.Prelude.{◌≡◌};
 ghost use Rattle.checks.specs.Checks.{any, not_finite, no_centre};
 
-use float::magnitude;
-
 // A double that is not finite.
 pub fn not_finite(x: f64) -> bool
     ensures { result ≡ not_finite x }
 {
-    !(magnitude(x) < 1.0 / 0.0)
+    !x.is_finite()
 }
 
 // A centre frequency that is not finite or not above zero.
 pub(crate) fn no_centre(f0: f64) -> bool
     ensures { result ≡ no_centre f0 }
 {
-    if not_finite(f0) {
-        return true;
-    }
-    !(0.0 < f0)
+    not_finite(f0) || !(0.0 < f0)
 }
 
 // Check 7 of a slice.
 pub(crate) fn any_not_finite(frequencies: &[f64]) -> bool
     ensures { result ≡ any not_finite frequencies.now }
 {
-    for i in 0..frequencies.len() {
-        if not_finite(frequencies[i]) {
-            return true;
-        }
-    }
-    false
+    frequencies.iter().any(|f| not_finite(*f))
 }

@@ -1,9 +1,10 @@
 // Check 6: coordinates and the observer, in metres.
 ghost use Rattle.std.specs.Prelude.{◌≡◌};
-ghost use Rattle.checks.specs.Checks.{unreachable, inside, misplaced, any_misplaced};
+ghost use Rattle.checks.specs.Checks.{unreachable, inside, misplaced, observer_misplaced, any_misplaced};
 
 use crate::limits::{AXES, LARGEST_COMPONENT, LEAST_COMPONENT};
 use float::magnitude;
+use units::Observer;
 
 // A component that is not finite or over 100,000,000 m in magnitude.
 fn unreachable(c: f64) -> bool
@@ -23,34 +24,20 @@ fn inside(c: f64) -> bool
 pub(crate) fn misplaced(x: f64, y: f64, z: f64) -> bool
     ensures { result ≡ misplaced x y z }
 {
-    if unreachable(x) {
-        return true;
-    }
-    if unreachable(y) {
-        return true;
-    }
-    if unreachable(z) {
-        return true;
-    }
-    if !inside(x) {
-        return false;
-    }
-    if !inside(y) {
-        return false;
-    }
-    inside(z)
+    (unreachable(x) || unreachable(y) || unreachable(z)) || (inside(x) && inside(y) && inside(z))
+}
+
+// Check 6 of the observer.
+pub(crate) fn observer_misplaced(o: Observer) -> bool
+    ensures { result ≡ observer_misplaced o }
+{
+    misplaced(o.x.0, o.y.0, o.z.0)
 }
 
 // Check 6 of a slice of positions, three doubles each.
 pub(crate) fn any_misplaced(positions: &[f64]) -> bool
     ensures { result ≡ any_misplaced positions.now }
 {
-    let places = positions.len() / AXES;
-    for k in 0..places {
-        let at = AXES * k;
-        if misplaced(positions[at], positions[at + 1], positions[at + 2]) {
-            return true;
-        }
-    }
-    false
+    let (places, _) = positions.as_chunks::<AXES>();
+    places.iter().any(|p| misplaced(p[0], p[1], p[2]))
 }

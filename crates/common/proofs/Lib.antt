@@ -1,5 +1,6 @@
 -- The laws about what every crate says, and about whole numbers, which the crates above cite.
 pub mod Filled
+pub mod Made
 pub mod Search
 pub mod Outcomes
 pub mod Sums

@@ -1,5 +1,6 @@
 // The units of the ship clock, each a type of its own with one field, so that kilometres cannot stand where metres are meant;
-// the records of three; spans of time and the speed of light by name. An ECEF coordinate is earth-centred and earth-fixed. The units have C's
+// the records of three, which are three types and not one with a parameter, so that an observer cannot stand where a position is meant; spans of
+// time and the speed of light by name. An ECEF coordinate is earth-centred and earth-fixed. The units have C's
 // layout, since the exports take them.
 #![tactic(auto)]
 

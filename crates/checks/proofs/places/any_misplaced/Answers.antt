@@ -1,29 +1,14 @@
--- The search from place k on ends as the whole search does; the doubles after the last whole place are not looked at. Assumes nothing.
-use mathlib.Core.Path.{refl, sym, ◌∙◌}
-use native.Mathlib.Omega.{arith}
-use borrow.Author.Rules.{rules}
-use lib.Ieee.{nan}
-use Rattle.checks.proofs.Lists.{place_found, place_more, place_none}
+-- The library goes over the whole places, as the definition does. Assumes nothing.
+use Rattle.std.proofs.Common.{◌∙◌, ◌/◌, length, rules, arith}
+use Rattle.std.proofs.lemmas.Iterator.{YieldsList-from_slice}
+use Rattle.std.proofs.lemmas.Iterator.Search.{any_from_yields_List}
+use borrow.Author.Tests.{tests}
+use Rattle.std.specs.Simd.{first_chunks}
+use Rattle.checks.proofs.Lists.{place_misplaced, by_chunks}
 use Rattle.checks.proofs.places.any_misplaced.Goals as goal
-
-pub loop-k-init : goal.loop-k-init
-loop-k-init c = (search rules, search rules, search rules, refl)
-
-pub returns-then-misplaced : goal.returns-then-misplaced
-returns-then-misplaced c =
-    let call = c.misplaced in
-    let at = c.loop-k in
-    let l = c.args.positions.now in
-    place_found nan l at.k at.invariant.3 (omega arith) (sym call.ensures ∙ c.if-misplaced.true)
-
-pub loop-k-preserved : goal.loop-k-preserved
-loop-k-preserved c =
-    let call = c.misplaced in
-    let at = c.loop-k in
-    let l = c.args.positions.now in
-    (search rules, search rules, search rules, place_more nan l at.k at.invariant.3 (omega arith) (sym call.ensures ∙ c.if-misplaced.false))
 
 pub returns : goal.returns
 returns c =
-    let at = c.loop-k in
-    place_none nan c.args.positions.now at.k at.invariant.3 (omega arith)
+    let l = c.args.positions.now in
+    any_from_yields_List place_misplaced c.any.new.self _ c.any.result c.any.ensures.ran (YieldsList-from_slice (first_chunks 3 (length l / 3) l) (cc c.as_chunks.ensures.front)) (λ x b q k. search (rules, tests))
+    ∙ by_chunks (length l / 3) l (omega arith) (omega arith)
