@@ -7,8 +7,10 @@ use Rattle.float.proofs.conversions.nearest.Goals as goal
 
 pub returns-then-n-ge0 : goal.returns-then-n-ge0
 returns-then-n-ge0 c =
-    c.nearest_unsigned.ensures ∙ ap (λ (x : ℕ). of_int binary64 (pos x)) (c.unsigned_magnitude.ensures ∙ ap nat_abs (to_z-of_z w64 c.args.n c.ranges.n)) ∙ of_int_up c.args.n (read_back c.args.n true c.ranges.n c.if-n-ge0.true)
+    c.nearest_unsigned-magnitude.ensures ∙ ap (λ (x : ℕ). of_int binary64 (pos x)) (c.unsigned_abs.ensures.value ∙ ap nat_abs (to_z-of_z w64 c.args.n c.ranges.n))
+    ∙ of_int_up c.args.n (read_back c.args.n true c.ranges.n c.if-n-ge0.true)
 
 pub returns-else-n-ge0 : goal.returns-else-n-ge0
 returns-else-n-ge0 c =
-    ap neg (c.nearest_unsigned-else-n-ge0.ensures ∙ ap (λ (x : ℕ). of_int binary64 (pos x)) (c.unsigned_magnitude-else-n-ge0.ensures ∙ ap nat_abs (to_z-of_z w64 c.args.n c.ranges.n))) ∙ of_int_down c.args.n (read_back c.args.n false c.ranges.n c.if-n-ge0.false)
+    ap neg (c.nearest_unsigned-magnitude.ensures ∙ ap (λ (x : ℕ). of_int binary64 (pos x)) (c.unsigned_abs.ensures.value ∙ ap nat_abs (to_z-of_z w64 c.args.n c.ranges.n)))
+    ∙ of_int_down c.args.n (read_back c.args.n false c.ranges.n c.if-n-ge0.false)
