@@ -1,13 +1,17 @@
 -- One column of the elimination is one step of the definition, and the columns from i on end where the whole inversion does. Assumes nothing.
-use mathlib.Core.Path.{◌≡◌, ap, ◌∙◌, sym}
-use mathlib.Core.Bool.{Bool, true, false, not}
+use mathlib.Core.Path.{◌≡◌, refl, ap, ap₂, ◌∙◌, sym}
+use mathlib.Core.Bool.{Bool, true, false}
 use Prim.Native.Nat.{ℕ, zero, suc, ◌+◌, ◌-◌, ◌≤◌, ◌<◌}
 use native.Mathlib.Omega.{arith}
 use lib.Ieee.{Float, lt}
 use Rattle.common.specs.Outcome.{Outcome, Told, refused, answered}
+use Rattle.std.specs.Result.{IsErrAnd}
+use Rattle.std.specs.Prelude.{Result, Ok, Err}
+use Rattle.common.specs.declared.refusal.Refusal.{Refusal}
+use Rattle.common.specs.Refusals.{number_of, told}
 use Rattle.float.specs.Signs.{magnitude_of}
 use Rattle.chebyshev.specs.Inverse.{Row, Matrix, cell, exchanged, least_pivot, singular_refusal, too_small, pivot_row, scaled_at, column, cleared_by, columns_from, order, unit_rows, inverted}
-use Rattle.chebyshev.specs.Steps.{cleared_column, Cleared}
+use Rattle.chebyshev.specs.Steps.{cleared_column, column_cleared}
 
 -- the pivot's test, by the row that was found and its magnitude
 pub small_is : (i j : ℕ) (t : Matrix) (x : Float) (b : Bool) → j ≡ pivot_row i t → x ≡ magnitude_of (cell t j i) → lt x least_pivot ≡ b → too_small i t ≡ b
@@ -37,42 +41,64 @@ columns-step i t v h s =
     let e : 10 - i ≡ suc (10 - (i + 1)) = omega arith in
     rw (e, columns_from, s)
 
-flip : (b s : Bool) → b ≡ not s → not b ≡ s
-flip b true h = ap not h
-flip b false h = ap not h
+-- a refusal that is passed on
+pub told_refusal : {A B : Type 0} (f : A → B) (r : Result A Refusal) (e : Refusal) → IsErrAnd r (λ x. x ≡ e) → told f r ≡ refused (number_of e)
+told_refusal f (Ok a) e h = absurd h
+told_refusal f (Err x) e h = ap (λ (y : Refusal). refused (number_of y)) h
 
--- by what a column's own function ensures: b is its answer
-pub columns_turn : (i : ℕ) (t v t' v' : Matrix) (b : Bool) → i < 10 → Cleared i t v b t' v' → not b ≡ false → columns_from (10 - (i + 1)) (i + 1) t' v' ≡ columns_from (10 - i) i t v
-columns_turn i t v t' v' b h k e =
-    let s : too_small i t ≡ false = sym (flip b (too_small i t) k.answer) ∙ e in
-    rw (k.matrix s, k.inverse s) (columns-step i t v h s)
+-- what the pivot's test makes of the rest of a step
+abbrev stepped : {A : Type 0} → Bool → Outcome A → Outcome A
+stepped b rest = elim b [ true ↦ refused singular_refusal | false ↦ rest ]
 
-pub columns-refused : (i : ℕ) (t v t' v' : Matrix) (b : Bool) → i < 10 → Cleared i t v b t' v' → not b ≡ true → columns_from (10 - i) i t v ≡ refused singular_refusal
-columns-refused i t v t' v' b h k e = columns_stop i t v h (sym (flip b (too_small i t) k.answer) ∙ e)
+-- by what a column's own function ensures: refused, or both matrices turned
+-- both matrices of a step
+abbrev pair_in : Matrix × Matrix → Outcome (Matrix × Matrix) → Matrix × Matrix
+pair_in d (refused n) = d
+pair_in d (answered pair) = pair
+
+module _ (i : ℕ) (t v : Matrix) where
+  pub column_refused : too_small i t ≡ true → ◌≡◌ {A = Outcome (Matrix × Matrix)} (refused singular_refusal) (column_cleared i t v)
+  column_refused s = ap (λ (b : Bool). stepped b (answered (cleared_column i t t, cleared_column i t v))) (sym s)
+
+  pub column_taken : (t' v' : Matrix) → too_small i t ≡ false → t' ≡ cleared_column i t t → v' ≡ cleared_column i t v → ◌≡◌ {A = Outcome (Matrix × Matrix)} (answered (t', v')) (column_cleared i t v)
+  column_taken t' v' s e f = ap₂ (λ (x y : Matrix). answered (x, y)) e f ∙ ap (λ (b : Bool). stepped b (answered (cleared_column i t t, cleared_column i t v))) (sym s)
+
+pub columns_refused : (i n : ℕ) (t v : Matrix) → i < 10 → ◌≡◌ {A = Outcome (Matrix × Matrix)} (refused n) (column_cleared i t v) → refused n ≡ columns_from (10 - i) i t v
+columns_refused i n t v h e = go (too_small i t) refl e
+  where
+    go : (b : Bool) → too_small i t ≡ b → ◌≡◌ {A = Outcome (Matrix × Matrix)} (refused n) (stepped b (answered (cleared_column i t t, cleared_column i t v))) → refused n ≡ columns_from (10 - i) i t v
+    go true s e = let k : n ≡ singular_refusal = cc in ap refused k ∙ sym (columns_stop i t v h s)
+    go false s e = cc
+
+pub columns_turn : (i : ℕ) (t v t' v' : Matrix) → i < 10 → ◌≡◌ {A = Outcome (Matrix × Matrix)} (answered (t', v')) (column_cleared i t v) → columns_from (10 - (i + 1)) (i + 1) t' v' ≡ columns_from (10 - i) i t v
+columns_turn i t v t' v' h e = go (too_small i t) refl e
+  where
+    go : (b : Bool) → too_small i t ≡ b → ◌≡◌ {A = Outcome (Matrix × Matrix)} (answered (t', v')) (stepped b (answered (cleared_column i t t, cleared_column i t v))) → columns_from (10 - (i + 1)) (i + 1) t' v' ≡ columns_from (10 - i) i t v
+    go true s e = cc
+    go false s e =
+        let p : t' ≡ cleared_column i t t = ap (λ (o : Outcome (Matrix × Matrix)). (pair_in (t', v') o).0) e in
+        let q : v' ≡ cleared_column i t v = ap (λ (o : Outcome (Matrix × Matrix)). (pair_in (t', v') o).1) e in
+        rw (p, q) (columns-step i t v h s)
 
 -- ---- the only refusal is 8
 
-module _ (i : ℕ) (t : Matrix) (rest : Outcome Matrix) where
-  abbrev stepped : Bool → Outcome Matrix
-  stepped b = elim b [ true ↦ refused singular_refusal | false ↦ rest ]
+told_step : (rest : Outcome Matrix) (b : Bool) → Told rest → Told (stepped b rest)
+told_step rest true h = tt
+told_step rest false h = h
 
-  told_step : (b : Bool) → Told rest → Told (stepped b)
-  told_step true h = tt
-  told_step false h = h
-
-  eight_step : (b : Bool) (k : ℕ) → (rest ≡ refused k → k ≡ singular_refusal) → stepped b ≡ refused k → k ≡ singular_refusal
-  eight_step true k h e = cc
-  eight_step false k h e = h e
+eight_step : (rest : Outcome Matrix) (b : Bool) (k : ℕ) → (rest ≡ refused k → k ≡ singular_refusal) → stepped b rest ≡ refused k → k ≡ singular_refusal
+eight_step rest true k h e = cc
+eight_step rest false k h e = h e
 
 told_from : (n i : ℕ) (t v : Matrix) → Told (columns_from n i t v)
 unfolding columns_from
 told_from zero i t v = tt
-told_from (suc n) i t v = told_step i t _ (too_small i t) (told_from n (i + 1) (cleared_column i t t) (cleared_column i t v))
+told_from (suc n) i t v = told_step _ (too_small i t) (told_from n (i + 1) (cleared_column i t t) (cleared_column i t v))
 
 eight_from : (n i : ℕ) (t v : Matrix) (k : ℕ) → columns_from n i t v ≡ refused k → k ≡ singular_refusal
 unfolding columns_from
 eight_from zero i t v k e = let z : ◌≡◌ {A = ℕ} 0 1 = cc in absurd (omega arith)
-eight_from (suc n) i t v k e = eight_step i t _ (too_small i t) k (eight_from n (i + 1) (cleared_column i t t) (cleared_column i t v) k) e
+eight_from (suc n) i t v k e = eight_step _ (too_small i t) k (eight_from n (i + 1) (cleared_column i t t) (cleared_column i t v) k) e
 
 pub inverted_told : (a : Matrix) → Told (inverted a)
 unfolding inverted

@@ -1,20 +1,20 @@
 -- The loops over rows: what is written so far, and what the definition makes of the rest, is what it makes of the whole. Assumes nothing.
-use mathlib.Core.Path.{◌≡◌, refl, ap, ◌∙◌, sym, subst}
+use mathlib.Core.Path.{◌≡◌, refl, ap, ◌∙◌}
 use mathlib.Core.Bool.{cond}
-use mathlib.Core.Logic.{◌⊎◌, inl, inr}
 use mathlib.Core.List.{List, [], ◌∷◌, ◌++◌, append-nil}
-use Prim.Native.Nat.{ℕ, suc, ◌+◌, ◌*◌, ◌/◌, ◌%◌, ◌≤◌, ◌<◌}
-use native.Mathlib.Nat.{le_refl, le_of_suc-le-suc, lt_of_not-le, eq-or-lt_of_le}
+use Prim.Native.Nat.{ℕ, suc, ◌+◌, ◌-◌, ◌*◌, ◌/◌, ◌%◌, ◌≤◌, ◌<◌}
+use native.Mathlib.Nat.{le_refl, le_of_suc-le-suc, lt_of_not-le}
 use native.Mathlib.Decide.{dec_lt}
 use native.Mathlib.Numerals.{add-one}
-use lib.ListN.{length, get_or, take, drop, set, drop_of_length-le, take-append-drop}
-use lib.Seq.{take-suc-set, drop-set-lt, drop-cons, append_snoc, take_all, set-get_or, set_out, get_or-set_same, get_or-set_other}
+use lib.ListN.{length, get_or, take, drop, set, drop_of_length-le, take-append-drop, length-take}
+use lib.Seq.{take-suc-set, drop-set-lt, drop-cons, append_snoc, take_all, set_out}
 use lib.Ieee.{Float, nan, binary64, div, sub, mul}
 use lib.Dec.{eqb}
 use borrow.Author.Tests.{eq-eqb, ne_eqb}
 use native.Mathlib.Omega.{arith}
+use Rattle.std.specs.List.{swap}
+use Rattle.std.proofs.lemmas.List.{get_or_default, get_or-take, get_or_append_left, get_or-append_right}
 use Rattle.chebyshev.specs.Inverse.{Row, Matrix, cell, divided, reduced, cleared, exchanged}
-use Rattle.chebyshev.specs.Steps.{RowPut}
 
 pub divided-step : (p : Float) (l : Row) (c : ℕ) → c < length l
     → (let v = div binary64 (get_or l c nan) p in take (c + 1) (set l c v) ++ divided p (drop (c + 1) (set l c v)) ≡ take c l ++ divided p (drop c l))
@@ -78,44 +78,31 @@ pub cleared-other : (i : ℕ) (by ks : Row) (l l' : Matrix) (r : ℕ) (x : Row) 
     → l' ≡ set l r (cond (eqb r i) (get_or l r []) (reduced (get_or ks r nan) (get_or l r []) by))
 cleared-other i by ks l l' r x n e f = rw (ne_eqb r i n) (f ∙ ap (λ (y : Row). set l r y) e)
 
-pub cleared-same : (i : ℕ) (by ks : Row) (l l' : Matrix) (r : ℕ) → r ≡ i → l' ≡ l
+pub cleared-same : (i : ℕ) (by ks : Row) (l l' : Matrix) (r : ℕ) → r ≡ i → l' ≡ set l r (get_or l r [])
     → l' ≡ set l r (cond (eqb r i) (get_or l r []) (reduced (get_or ks r nan) (get_or l r []) by))
-cleared-same i by ks l l' r e f = rw (eq-eqb r i e) (f ∙ sym (set-get_or l r []))
+cleared-same i by ks l l' r e f = rw (eq-eqb r i e) f
 
--- rows that are the same, exchanged
-pub exchanged_same : (i j : ℕ) (m : Matrix) → i ≡ j → m ≡ exchanged i j m
-exchanged_same i j m e = subst (λ (k : ℕ). m ≡ exchanged i k m) e (sym (ap (λ (x : Matrix). set x i (get_or m i [])) (set-get_or m i []) ∙ set-get_or m i []))
-
--- a number written among the hundred: those before row r stay, and row r has one number more
-pub put-before : (out : Row) (r c : ℕ) (v : Float) (old : Row) → ((k : ℕ) → k < 10 * r → get_or out k nan ≡ get_or old k nan) → (k : ℕ) → k < 10 * r → get_or (set out (10 * r + c) v) k nan ≡ get_or old k nan
-put-before out r c v old h k l = get_or-set_other out (10 * r + c) k v nan (λ e. apart k e l) ∙ h k l
+-- rows inside the matrix in each other's place, as the library has it
+pub swapped : (i j : ℕ) (m : Matrix) → i < length m → j < length m → swap m i j ≡ exchanged i j m
+swapped i j [] h k = absurd (none i h)
   where
-    apart : (k : ℕ) → k ≡ 10 * r + c → k < 10 * r → ⊥
-    apart k e l = omega arith
+    none : (i : ℕ) → i < 0 → ⊥
+    none i h = omega arith
+swapped i j (row ∷ rows) h k = rw (get_or_default (row ∷ rows) i row [] h, get_or_default (row ∷ rows) j row [] k)
 
-pub put-within : (out : Row) (r c : ℕ) (row : Row) → 10 * r + c < length out → ((k : ℕ) → k < c → get_or out (10 * r + k) nan ≡ get_or row k nan)
-    → (k : ℕ) → k < c + 1 → get_or (set out (10 * r + c) (get_or row c nan)) (10 * r + k) nan ≡ get_or row k nan
-put-within out r c row inside h k l = go (eq-or-lt_of_le (le_of_suc-le-suc (subst (λ (m : ℕ). k < m) (add-one c) l)))
+-- row r put at its place among the hundred: the numbers below 10 r stay, and those of row r are the matrix's
+pub row_put : (m : Matrix) (out row rest : Row) (r : ℕ) → r < 10 → length out ≡ 100 → length row ≡ 10 → row ≡ get_or m r [] → ((k : ℕ) → k < 10 * r → get_or out k nan ≡ cell m (k / 10) (k % 10))
+    → (k : ℕ) → k < 10 * (r + 1) → get_or (take (10 * r) out ++ (row ++ rest)) k nan ≡ cell m (k / 10) (k % 10)
+row_put m out row rest r h long ten same before k u = go (dec_lt k (10 * r))
   where
-    v : Float
-    v = get_or row c nan
-
-    go : (k ≡ c) ⊎ (k < c) → get_or (set out (10 * r + c) v) (10 * r + k) nan ≡ get_or row k nan
-    go (inl e) = ap (λ (m : ℕ). get_or (set out (10 * r + c) v) (10 * r + m) nan) e ∙ get_or-set_same out (10 * r + c) v nan inside ∙ ap (λ (m : ℕ). get_or row m nan) (sym e)
-    go (inr u) = get_or-set_other out (10 * r + c) (10 * r + k) v nan (λ e. apart k e u) ∙ h k u
-      where
-        apart : (k : ℕ) → 10 * r + k ≡ 10 * r + c → k < c → ⊥
-        apart k e l = omega arith
-
--- row r put: the numbers below 10 r and those of row r are the matrix's
-pub row_more : (m : Matrix) (old new : Row) (r : ℕ) → RowPut old (get_or m r []) r new → ((k : ℕ) → k < 10 * r → get_or old k nan ≡ cell m (k / 10) (k % 10))
-    → (k : ℕ) → k < 10 * (r + 1) → get_or new k nan ≡ cell m (k / 10) (k % 10)
-row_more m old new r p h k l = go (dec_lt k (10 * r))
-  where
-    go : Dec (k < 10 * r) → get_or new k nan ≡ cell m (k / 10) (k % 10)
-    go (yes u) = p.before k u ∙ h k u
-    go (no u) =
-        let u2 : 10 * r ≤ k = le_of_suc-le-suc (lt_of_not-le u) in
-        let e1 : 10 * r + k % 10 ≡ k = omega arith in
-        let e2 : r ≡ k / 10 = omega arith in
-        ap (λ (n : ℕ). get_or new n nan) (sym e1) ∙ p.within (k % 10) (omega arith) ∙ ap (λ (n : ℕ). cell m n (k % 10)) e2
+    go : Dec (k < 10 * r) → get_or (take (10 * r) out ++ (row ++ rest)) k nan ≡ cell m (k / 10) (k % 10)
+    go (yes l) = get_or_append_left (take (10 * r) out) (row ++ rest) nan k (simp length-take (omega arith)) ∙ get_or-take (10 * r) out k nan l ∙ before k l
+    go (no l) =
+        let low : 10 * r ≤ k = le_of_suc-le-suc (lt_of_not-le l) in
+        let place : k - 10 * r ≡ k % 10 = omega arith in
+        let number : r ≡ k / 10 = omega arith in
+        get_or-append_right (take (10 * r) out) (row ++ rest) (10 * r) k nan (simp length-take (omega arith)) low
+        ∙ get_or_append_left row rest nan (k - 10 * r) (omega arith)
+        ∙ ap (λ (x : Row). get_or x (k - 10 * r) nan) same
+        ∙ ap (λ (n : ℕ). cell m r n) place
+        ∙ ap (λ (n : ℕ). cell m n (k % 10)) number

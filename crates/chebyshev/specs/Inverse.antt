@@ -6,8 +6,7 @@ use Rattle.std.specs.Float.Ieee.{lt}
 use Rattle.common.specs.Rounded.{◌⊖◌, ◌⊗◌, ◌⊘◌}
 use Rattle.common.specs.Numbers.{nought, one}
 use Rattle.float.specs.Signs.{magnitude_of}
-use Rattle.chebyshev.specs.declared.inverse.Inverse.{Inverse}
-use Rattle.common.specs.Outcome.{Outcome, refused, answered}
+use Rattle.common.specs.Outcome.{Outcome, refused, answered, mapped}
 use Rattle.common.specs.Lists.{list_of}
 use Rattle.common.specs.Search.{first_best}
 
@@ -114,16 +113,11 @@ inverted a = columns_from order 0 a unit_rows
 abbrev pub flat : Matrix → Row
 flat m = list_of (λ k. cell m (k / order) (k % order)) (order * order) 0
 
--- the rows that stand beside the paper's number: "an array ... that the language makes stand beside it is all zeros"
+-- the rows of an inverse, zeros where there is none
 abbrev pub rows_of : Outcome Matrix → Matrix
 rows_of (refused n) = replicate order (replicate order nought)
 rows_of (answered v) = v
 
--- the number, and the hundred doubles beside it
-abbrev pub answer_of : Outcome Matrix → Inverse
-answer_of (refused n) = record { refusal = n; numbers = replicate (order * order) nought }
-answer_of (answered v) = record { refusal = 0; numbers = flat v }
-
--- the entry: the inverse of a, or 8
-abbrev pub invert_matrix_10 : Matrix → Inverse
-invert_matrix_10 a = answer_of (inverted a)
+-- the entry: the refusal, or the inverse's 100 doubles, row after row
+abbrev pub invert_matrix_10 : Matrix → Outcome Row
+invert_matrix_10 a = mapped flat (inverted a)

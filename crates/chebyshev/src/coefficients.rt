@@ -1,30 +1,28 @@
 // The coefficients of a Chebyshev sum through ten positions of an axis, by the inverse of the nodes' matrix.
 ghost use Rattle.std.specs.Prelude.{◌≡◌};
+ghost use Rattle.common.specs.Outcome.{mapped};
+ghost use Rattle.common.specs.Refusals.{told};
 ghost use Rattle.chebyshev.specs.Inverse.{inverted, rows_of};
 ghost use Rattle.chebyshev.specs.Ideal.{ideal_matrix};
-ghost use Rattle.chebyshev.specs.Coefficients.{coefficients_by, coefficients_answer};
+ghost use Rattle.chebyshev.specs.Coefficients.{coefficients_by, coefficients_of};
 ghost use Rattle.chebyshev.specs.Steps.{scaled_onto};
 
 use crate::ideal::ideal_columns;
-use crate::inverse::gauss_jordan;
+use crate::inverse::{Matrix, Row, gauss_jordan};
 use crate::recurrence::weighted_sum;
+use common::Refusal;
+use std::array::from_fn;
 
 // Coefficient j is the sum of row j of the inverse times the positions.
-fn coefficients_by(inverse: [[f64; 10]; 10], positions: [f64; 10]) -> [f64; 10]
+fn coefficients_by(inverse: Matrix, positions: Row) -> Row
     ensures { result ≡ coefficients_by inverse positions }
 {
-    let mut c = [0.0; 10];
-    for j in 0..10 {
-        let row = inverse[j];
-        c[j] = weighted_sum(row, positions);
-    }
-    c
+    from_fn(|j| weighted_sum(inverse[j], positions))
 }
 
-// 0 and the coefficients of x, y and z, ten each; or the refusal 8 and zeros.
+// The coefficients of x, y and z, ten each.
 #[derive(Clone, Copy)]
 pub struct Coefficients {
-    pub refusal: u8,
     pub cx: [f64; 10],
     pub cy: [f64; 10],
     pub cz: [f64; 10],
@@ -37,40 +35,25 @@ pub fn coefficients_through(
     x: [f64; 10],
     y: [f64; 10],
     z: [f64; 10],
-) -> Coefficients
-    ensures { result ≡ coefficients_answer (inverted nodes) x y z }
+) -> Result<Coefficients, Refusal>
+    ensures { told (λ c. c) result ≡ mapped (coefficients_of x y z) (inverted nodes) }
 {
-    let mut refusal = 0u8;
-    let inverse = gauss_jordan(nodes, &mut refusal);
-    if refusal != 0 {
-        let zeros = [0.0; 10];
-        return Coefficients {
-            refusal,
-            cx: zeros,
-            cy: zeros,
-            cz: zeros,
-        };
-    }
-    let cx = coefficients_by(inverse, x);
-    let cy = coefficients_by(inverse, y);
-    let cz = coefficients_by(inverse, z);
-    Coefficients {
-        refusal: 0,
-        cx,
-        cy,
-        cz,
-    }
+    let inverse = gauss_jordan(nodes)?;
+    Ok(Coefficients {
+        cx: coefficients_by(inverse, x),
+        cy: coefficients_by(inverse, y),
+        cz: coefficients_by(inverse, z),
+    })
 }
 
 // c with x times a column added to it.
-fn add_scaled(c: [f64; 10], column: [f64; 10], x: f64) -> [f64; 10]
-    ensures { result ≡ scaled_onto c column x }
+fn add_scaled(c: &mut Row, column: &Row, x: f64)
+    ensures { c.new ≡ scaled_onto c.old column.now x }
 {
-    let mut out = c;
-    for j in 0..10 {
-        out[j] = out[j] + column[j] * x;
+    // by the index: of what is written through a zip, the library's contracts say nothing
+    for (j, sum) in c.iter_mut().enumerate() {
+        *sum += column[j] * x;
     }
-    out
 }
 
 // The coefficients of one axis by the inverse for ideal nodes, worked out column by column.
@@ -79,11 +62,8 @@ pub fn ideal_coefficients(positions: [f64; 10]) -> [f64; 10]
 {
     let columns = ideal_columns();
     let mut c = [0.0; 10];
-    for k in 0..10 {
-        let column = columns[k];
-        let x = positions[k];
-        let next = add_scaled(c, column, x);
-        c = next;
+    for (column, x) in columns.iter().zip(&positions) {
+        add_scaled(&mut c, column, *x);
     }
     c
 }

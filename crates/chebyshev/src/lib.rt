@@ -8,7 +8,7 @@ mod recurrence;
 
 pub use coefficients::{Coefficients, coefficients_through, ideal_coefficients};
 pub use ideal::ideal_columns;
-pub use inverse::{Inverse, invert_matrix_10};
+pub use inverse::invert_matrix_10;
 pub use recurrence::{
     Evaluation, Polynomials, evaluate_chebyshev, polynomials_at, values_at, weighted_sum,
 };

@@ -8,6 +8,7 @@ pub fn values_at(tau: f64) -> [f64; 10]
 {
     let mut t = [1.0; 10];
     t[1] = tau;
+    // by the index: each is made of the two before it
     for j in 2..10 {
         t[j] = 2.0 * tau * t[j - 1] - t[j - 2];
     }
@@ -21,6 +22,7 @@ fn slopes_from(tau: f64, t: [f64; 10]) -> [f64; 10]
 {
     let mut dt = [0.0; 10];
     dt[1] = 1.0;
+    // by the index: each is made of the two before it
     for j in 2..10 {
         dt[j] = 2.0 * t[j - 1] + 2.0 * tau * dt[j - 1] - dt[j - 2];
     }
@@ -47,11 +49,7 @@ pub fn polynomials_at(tau: f64) -> Polynomials
 pub fn weighted_sum(c: [f64; 10], t: [f64; 10]) -> f64
     ensures { result ≡ weighted rounded c t }
 {
-    let mut sum = 0.0;
-    for j in 0..10 {
-        sum += c[j] * t[j];
-    }
-    sum
+    c.iter().zip(&t).fold(0.0, |sum, (c, t)| sum + c * t)
 }
 
 // A Chebyshev sum at τ and its slope there, for each unit of τ.

@@ -1,28 +1,12 @@
--- Below j the array holds the coefficients, each by what the weighted sum ensures. Assumes nothing.
+-- Each coefficient is what the closure gives of its index. Assumes nothing.
 use mathlib.Core.List.{[]}
-use native.Mathlib.Omega.{arith}
-use lib.ListN.{get_or, length-set}
 use lib.Ieee.{nan}
-use borrow.Author.Count.{below_none}
+use lib.ListN.{get_or}
+use Rattle.common.proofs.Made.{made_of_indices}
 use Rattle.chebyshev.specs.Recurrence.{rounded, weighted}
-use Rattle.common.proofs.Filled.{filled, filled_more}
 use borrow.Author.Rules.{rules}
+use borrow.Author.Tests.{tests}
 use Rattle.chebyshev.proofs.coefficients.coefficients_by.Goals as goal
 
-pub loop-j-init : goal.loop-j-init
-loop-j-init c = (search rules, search rules, below_none _)
-
-pub loop-j-preserved : goal.loop-j-preserved
-loop-j-preserved c =
-    let at = c.loop-j in
-    let args = c.args in (
-      search rules,
-      simp length-set (search rules),
-      filled_more (λ k. weighted rounded (get_or args.inverse k []) args.positions) nan at.c at.j _ (omega arith) c.weighted_sum.ensures at.invariant.2,
-    )
-
 pub returns : goal.returns
-returns c =
-    let at = c.loop-j in
-    let args = c.args in
-    filled (λ k. weighted rounded (get_or args.inverse k []) args.positions) 10 nan at.c at.invariant.1 (λ k h. at.invariant.2 k (omega arith))
+returns c = made_of_indices _ (λ j. weighted rounded (get_or c.args.inverse j []) c.args.positions) _ c.from_fn.result nan (λ j x q call. search (rules, tests)) 10 c.from_fn.ensures.items

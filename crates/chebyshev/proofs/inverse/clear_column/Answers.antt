@@ -1,35 +1,47 @@
 -- The pivot's test is the definition's, and each later step is one of its steps, as the callees ensure. Assumes nothing.
-use mathlib.Core.Path.{◌≡◌, sym, ap, ◌∙◌}
-use mathlib.Core.Bool.{true, false, not, true≢false}
+use mathlib.Core.Path.{◌≡◌, ap, ◌∙◌}
+use mathlib.Core.Bool.{true, false}
+use native.Mathlib.Omega.{arith}
 use lib.Ieee.{of_bits}
-use Rattle.chebyshev.specs.Inverse.{too_small}
+use lib.ListN.{set}
+use Rattle.chebyshev.specs.Inverse.{Row}
 use Rattle.chebyshev.specs.Steps.{cleared_column}
-use Rattle.chebyshev.proofs.Columns.{small_is, turned}
+use Rattle.chebyshev.proofs.Columns.{small_is, turned, column_refused, column_taken}
+use Rattle.chebyshev.proofs.Rows.{swapped}
 use Rattle.chebyshev.proofs.inverse.clear_column.Goals as goal
-use Rattle.chebyshev.proofs.inverse.clear_column.Goals.{After-clear_rows-2, Else-magnitude, Then-magnitude}
-
-refused : (c : Then-magnitude) → too_small c.args.i c.args.t.now ≡ true
-unfolding of_bits
-refused c =
-    let pivot = c.pivot_row-j in
-    small_is c.args.i pivot.result c.args.t.now c.magnitude.result true pivot.ensures.1 c.magnitude.ensures c.if-magnitude.true
+use Rattle.chebyshev.proofs.inverse.clear_column.Goals.{After-clear_rows-2}
 
 both : (c : After-clear_rows-2) → (let args = c.args in
     (c.clear_rows.new.m ≡ cleared_column args.i args.t.now args.t.now) × (c.clear_rows-2.new.m ≡ cleared_column args.i args.t.now args.v.now))
 both c =
-    let args = c.args in
+    let i = c.args.i in
+    let t = c.args.t.now in
+    let v = c.args.v.now in
     let pivot = c.pivot_row-j in
-    let cleared = c.clear_rows in
-    turned args.i pivot.result args.t.now args.v.now c.swap_rows.new.m c.swap_rows-2.new.m c.scale_at.new.m c.scale_at-2.new.m
-    cleared.new.m c.clear_rows-2.new.m c.column_of-factors.result
-    pivot.ensures.1 c.swap_rows.ensures c.swap_rows-2.ensures c.scale_at.ensures c.scale_at-2.ensures
-    c.column_of-factors.ensures cleared.ensures c.clear_rows-2.ensures
+    let j = pivot.result in
+    let t1 = c.swap.new.self in
+    let v1 = c.swap-2.new.self in
+    turned i j t v t1 v1 (set t1 i c.divide_row.new.row) (set v1 i c.divide_row-2.new.row) c.clear_rows.new.m c.clear_rows-2.new.m c.column_of-factors.result
+    pivot.ensures.1
+    (c.swap.ensures.after ∙ swapped i j t (omega arith) (omega arith))
+    (c.swap-2.ensures.after ∙ swapped i j v (omega arith) (omega arith))
+    (ap (λ (row : Row). set t1 i row) c.divide_row.ensures)
+    (ap (λ (row : Row). set v1 i row) c.divide_row-2.ensures)
+    c.column_of-factors.ensures c.clear_rows.ensures c.clear_rows-2.ensures
 
 pub returns-then-magnitude : goal.returns-then-magnitude
+unfolding of_bits
 returns-then-magnitude c =
-    let e = refused c in
-    record { answer = sym (ap not e); matrix = λ u. absurd (true≢false (sym e ∙ u)); inverse = λ u. absurd (true≢false (sym e ∙ u)) }
+    let i = c.args.i in
+    let t = c.args.t.now in
+    let pivot = c.pivot_row-j in
+    column_refused i t c.args.v.now (small_is i pivot.result t c.magnitude.result true pivot.ensures.1 c.magnitude.ensures c.if-magnitude.true)
 
 pub returns : goal.returns
 unfolding of_bits
-returns c = record { answer = sym (ap not ((let it : too_small c.args.i c.args.t.now ≡ false = let pivot = c.pivot_row-j in small_is c.args.i pivot.result c.args.t.now c.magnitude.result false pivot.ensures.1 c.magnitude.ensures c.if-magnitude.false in it))); matrix = λ u. (both c).0; inverse = λ u. (both c).1 }
+returns c =
+    let i = c.args.i in
+    let t = c.args.t.now in
+    let pivot = c.pivot_row-j in
+    let small = small_is i pivot.result t c.magnitude.result false pivot.ensures.1 c.magnitude.ensures c.if-magnitude.false in
+    column_taken i t c.args.v.now c.clear_rows.new.m c.clear_rows-2.new.m small (both c).0 (both c).1

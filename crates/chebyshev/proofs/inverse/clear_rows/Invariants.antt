@@ -1,13 +1,9 @@
 -- Before row r the rows are cleared, and from it on they are as they were: together the definition of the whole. Assumes nothing.
 use mathlib.Core.Path.{◌≡◌}
 use mathlib.Core.List.{◌++◌}
-use Prim.Native.Nat.{◌≤◌, ◌-◌}
-use lib.ListN.{length, take, drop}
+use lib.ListN.{take, drop}
 use Rattle.chebyshev.specs.Inverse.{cleared}
 use Rattle.chebyshev.proofs.inverse.clear_rows.Given as goal
 
 abbrev pub invariant-loop-r : goal.invariant-loop-r
-invariant-loop-r l = (l.r ≤ 10) × (length l.factors ≡ 10) × (take l.r l.m ++ cleared l.i l.by l.r (drop l.r l.factors) (drop l.r l.m) ≡ cleared l.i l.by 0 l.factors l.initial.m)
-
-abbrev pub decreases-loop-r : goal.decreases-loop-r
-decreases-loop-r l = 10 - l.r
+invariant-loop-r l = take l.r l.m ++ cleared l.i l.by l.r (drop l.r l.factors) (drop l.r l.m) ≡ cleared l.i l.by 0 l.factors l.fn.m

@@ -1,6 +1,6 @@
 -- `best` is the best row so far and `most` its magnitude; the search from row r on ends where the whole search does. Assumes nothing.
 use mathlib.Core.Bool.{true, false}
-use mathlib.Core.Path.{refl, ◌∙◌, sym, ap}
+use mathlib.Core.Path.{◌∙◌, sym, ap}
 use Prim.Native.Nat.{ℕ, ◌<◌, ◌-◌, ◌+◌}
 use native.Mathlib.Omega.{arith}
 use Rattle.float.specs.Signs.{magnitude_of}
@@ -12,9 +12,6 @@ use Rattle.chebyshev.proofs.Pivots.{pivot_step}
 use borrow.Author.Rules.{rules}
 use Rattle.chebyshev.proofs.inverse.pivot_row.Goals as goal
 use Rattle.chebyshev.proofs.inverse.pivot_row.Goals.{then-x-most, else-x-most}
-
-pub loop-r-init : goal.loop-r-init
-loop-r-init c = (search rules, search rules, search rules, search rules, refl)
 
 pub loop-r-preserved : goal.loop-r-preserved
 loop-r-preserved c =

@@ -1,22 +1,13 @@
--- Before index c the row holds the reduced numbers, and after it the numbers as they were: together the definition of the whole. Assumes nothing.
-use borrow.Author.Rules.{rules}
-use mathlib.Core.Path.{refl, ◌∙◌, sym}
+-- Before index c the row holds the reduced numbers, and from it on the numbers as they were: together the definition of the whole. Assumes nothing.
+use mathlib.Core.Path.{◌∙◌, sym}
 use native.Mathlib.Omega.{arith}
 use lib.ListN.{length-set}
 use Rattle.chebyshev.proofs.Rows.{reduced-step, reduced_end}
+use borrow.Author.Rules.{rules}
 use Rattle.chebyshev.proofs.inverse.reduce_row.Goals as goal
 
-pub loop-c-init : goal.loop-c-init
-loop-c-init c = (search rules, search rules, search rules, refl)
-
 pub loop-c-preserved : goal.loop-c-preserved
-loop-c-preserved c =
-    let at = c.loop-c in
-    let args = c.args in
-    (search rules, simp length-set (search rules), search rules, reduced-step args.k args.by at.out at.c (omega arith) (omega arith) ∙ at.invariant.3)
+loop-c-preserved c = let at = c.loop-c in (simp length-set (search rules), reduced-step c.args.k c.args.by.now at.row at.c (omega arith) (omega arith) ∙ at.invariant.1)
 
 pub returns : goal.returns
-returns c =
-    let at = c.loop-c in
-    let args = c.args in
-    sym (reduced_end args.k args.by at.out at.c (omega arith)) ∙ at.invariant.3
+returns c = let at = c.loop-c in sym (reduced_end c.args.k c.args.by.now at.row at.c (omega arith)) ∙ at.invariant.1

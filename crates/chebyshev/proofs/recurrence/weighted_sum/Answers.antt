@@ -1,24 +1,14 @@
--- The sum so far and the terms that are left make up the whole sum, at each turn. Assumes nothing.
-use mathlib.Core.Path.{refl, sym, ◌∙◌}
-use native.Mathlib.Omega.{arith}
-use lib.Ieee.{nan, of_bits}
-use Rattle.chebyshev.specs.Recurrence.{rounded}
-use Rattle.chebyshev.proofs.Sums.{weighted-step, weighted_end}
+-- The fold over the pairs is the definition's sum. Assumes nothing.
+use mathlib.Core.Path.{◌∙◌}
+use lib.Ieee.{of_bits}
+use Rattle.std.proofs.lemmas.Iterator.{YieldsList-from_slice, YieldsList-from_zip}
+use Rattle.std.proofs.lemmas.Iterator.Consumers.{fold_from_yields_List}
+use Rattle.common.specs.Numbers.{nought}
+use Rattle.chebyshev.proofs.Sums.{sum_more, folded}
 use borrow.Author.Rules.{rules}
+use borrow.Author.Tests.{tests}
 use Rattle.chebyshev.proofs.recurrence.weighted_sum.Goals as goal
 
-pub loop-j-init : goal.loop-j-init
-unfolding of_bits
-loop-j-init c = (search rules, search rules, search rules, refl)
-
-pub loop-j-preserved : goal.loop-j-preserved
-loop-j-preserved c =
-    let at = c.loop-j in
-    let args = c.args in
-    (search rules, search rules, search rules, weighted-step rounded nan at.sum args.c args.t at.j (omega arith) (omega arith) ∙ at.invariant.3)
-
 pub returns : goal.returns
-returns c =
-    let at = c.loop-j in
-    let args = c.args in
-    sym (weighted_end rounded at.sum args.c args.t at.j (omega arith)) ∙ at.invariant.3
+unfolding of_bits
+returns c = fold_from_yields_List _ sum_more nought c.fold.result c.fold.ensures.ran (YieldsList-from_zip (YieldsList-from_slice c.args.c (cc)) (YieldsList-from_slice c.args.t (cc))) (λ s p r q call. search (rules, tests)) ∙ folded nought c.args.c c.args.t
