@@ -1,4 +1,4 @@
--- An instant by its seconds and the nanoseconds after them: leap seconds may be taken from the seconds first. What fits in the machine's range,
+-- An instant by its seconds and the nanoseconds after them: leap seconds may be taken from the seconds first. How many seconds there are at most,
 -- and seconds so far from 1970 that the instant is beyond check 4. Assumes nothing.
 use mathlib.Core.Path.{◌≡◌, refl, sym, subst}
 use mathlib.Core.Bool.{true}
@@ -6,10 +6,8 @@ use Prim.Native.Nat.{ℕ, ◌+◌, ◌*◌, ◌≤◌, ◌<◌}
 use native.Mathlib.Omega.{arith}
 use borrow.Author.Tests.{ltb-true, lt-ltb}
 use lib.IntN.{ℤ, pos, negsuc, nat_abs, ◌+ℤ◌, ◌-ℤ◌, ◌*ℤ◌}
-use mir.Syntax.{w16, w64}
-use mir.Val.{SFits}
 use Rattle.common.specs.Time.{second}
-use Rattle.common.proofs.Parts.{over, under, parts_eq, add_parts, minus_parts, over_times, under-times, within-fits, abs_parts}
+use Rattle.common.proofs.Parts.{over, under, parts_eq, add_parts, minus_parts, over_times, under-times, abs_parts}
 use Rattle.checks.specs.Limits.{farthest_instant}
 use Rattle.checks.specs.Checks.{beyond}
 use Rattle.calendar.specs.declared.gregorian.Calendar.{Calendar}
@@ -46,52 +44,13 @@ seconds-first c leaps = joins (second_number c) (second_number origin) c.nanosec
             → p ≡ m * second → p' ≡ m' * second → x + (i' + l) ≡ i + l' + x' → y + (p' + 0) ≡ p + n + y' → x + y' ≡ y + x'
         sums s e n i i' l l' d d' m m' p p' a a' x x' y y' e1 e2 e3 e4 e5 e6 e7 e8 e9 = omega arith
 
--- ---- what fits
+-- ---- how many there are
 
 pub second-small : (c : Calendar) → Real c → second_number c ≤ 400000000000
 second-small c h = small (day_number c) c.hour c.minute c.second (day_small c h.date) h.time.hour_to h.time.minute_to h.time.second_to
   where
     small : (d h m s : ℕ) → d ≤ 3660000 → h < 24 → m < 60 → s < 60 → 60 * (60 * (24 * d + h) + m) + s ≤ 400000000000
     small d h m s e f g k = omega arith
-
--- 16 bits
-sixteen : (l : ℤ) → SFits w16 l → (over l ≤ 32767) × (under l ≤ 32768)
-sixteen (pos a) h = (omega (arith, h.sfits), omega arith)
-sixteen (negsuc a) h = (omega arith, omega (arith, h.sfits))
-
-pub widened : (l : ℤ) → SFits w16 l → SFits w64 l
-widened l h = let p = sixteen l h in within-fits l (omega (arith, p.0), omega (arith, p.1))
-
--- the seconds between two dates, and less leap seconds
-module _ (n e : ℕ) (h : n ≤ 400000000000) (k : e ≤ 400000000000) where
-  pub between_fits : SFits w64 (pos n -ℤ pos e)
-  between_fits = let z = pos n -ℤ pos e in within-fits z (bounds (over z) (under z) (minus_parts (pos n) (pos e)))
-    where
-      bounds : (a b : ℕ) → a + (0 + e) ≡ n + 0 + b → (a ≤ b + 9223372036854775807) × (b ≤ a + 9223372036854775808)
-      bounds a b g = (omega arith, omega arith)
-
-  pub less-fits : (l : ℤ) → SFits w16 l → SFits w64 (pos n -ℤ pos e -ℤ l)
-  less-fits l f =
-      let z = pos n -ℤ pos e in
-      let y = z -ℤ l in
-      let s = sixteen l f in
-      within-fits y (bounds (over z) (under z) (over l) (under l) (over y) (under y) s.0 s.1 (minus_parts (pos n) (pos e)) (minus_parts z l))
-    where
-      bounds : (a b p q x y : ℕ) → p ≤ 32767 → q ≤ 32768 → a + (0 + e) ≡ n + 0 + b → x + (b + p) ≡ a + q + y → (x ≤ y + 9223372036854775807) × (y ≤ x + 9223372036854775808)
-      bounds a b p q x y f g u v = (omega arith, omega arith)
-
--- few seconds in nanoseconds, and the nanoseconds after them
-pub product_fits : (s : ℤ) → nat_abs s ≤ many_seconds → SFits w64 (s *ℤ pos second)
-product_fits s h = within-fits (s *ℤ pos second) (omega (arith, over_times s second, abs_parts s), omega (arith, under-times s second, abs_parts s))
-
-pub joined-fits : (s : ℤ) (n : ℕ) → nat_abs s ≤ many_seconds → n < 4294967296 → SFits w64 (s *ℤ pos second +ℤ pos n)
-joined-fits s n h k =
-    let p = s *ℤ pos second in
-    let x = p +ℤ pos n in
-    within-fits x (bounds (over s) (under s) (over p) (under p) (over x) (under x) (nat_abs s) (abs_parts s) h (over_times s second) (under-times s second) (add_parts p (pos n)))
-  where
-    bounds : (a b p q x y m : ℕ) → m ≡ a + b → m ≤ many_seconds → p ≡ a * second → q ≡ b * second → x + (q + 0) ≡ p + n + y → (x ≤ y + 9223372036854775807) × (y ≤ x + 9223372036854775808)
-    bounds a b p q x y m d e f g i = (omega arith, omega arith)
 
 -- ---- far seconds are beyond, whatever nanoseconds are added
 

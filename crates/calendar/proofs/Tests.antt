@@ -1,19 +1,6 @@
 -- Tests that are joined by `&&`, as the code makes them one after the other. Assumes nothing.
 use mathlib.Core.Path.{◌≡◌, refl}
-use mathlib.Core.Bool.{Bool, true, false, ◌&&◌, true≢false, false≢true}
-
-pub and_both : (a b : Bool) → a ≡ true → b ≡ true → a && b ≡ true
-and_both true b e f = f
-and_both false b e f = e
-
--- where the first holds, the second decides; where it does not, it decides itself
-pub and_last : (a b : Bool) → a ≡ true → b ≡ a && b
-and_last true b e = refl
-and_last false b e = absurd (false≢true e)
-
-pub and_first : (a b : Bool) → a ≡ false → false ≡ a && b
-and_first true b e = absurd (true≢false e)
-and_first false b e = refl
+use mathlib.Core.Bool.{Bool, true, false, ◌&&◌, false≢true}
 
 -- what joined tests that hold say of each
 pub both : (a b : Bool) → a && b ≡ true → (a ≡ true) × (b ≡ true)

@@ -1,7 +1,7 @@
 -- Cases by computation. Each says what the definition gives.
-use Rattle.std.specs.Prelude.{ℕ, ◌≡◌, refl, true, false, pos, negsuc}
+use Rattle.std.specs.Prelude.{ℕ, ◌≡◌, refl, true, false, Ok, Err, pos, negsuc}
 use Rattle.calendar.specs.declared.gregorian.Calendar.{Calendar}
-use Rattle.calendar.specs.declared.instants.InstantAnswer.TheVariants.{At, Unreal, Beyond}
+use Rattle.calendar.specs.declared.instants.InstantError.TheVariants.{Unreal, Beyond}
 use Rattle.calendar.specs.Gregorian.{leap, sum, days_of_years, real}
 use Rattle.calendar.specs.Instants.{since1970, instant_of}
 
@@ -28,14 +28,14 @@ abbrev last : Calendar
 last = record { year = 2096; month = 10; day = 2; hour = 7; minute = 6; second = 40; nanosecond = 0 }
 
 -- they are answered; the first less one leap second is beyond check 4, and so is the last less −1
-pub ends : (instant_of first (pos 0) ≡ At (record { 0 = negsuc 3999999999999999999 }))
-    × (instant_of last (pos 0) ≡ At (record { 0 = pos 4000000000000000000 }))
-    × (instant_of first (pos 1) ≡ Beyond) × (instant_of last (negsuc 0) ≡ Beyond)
+pub ends : (instant_of first (pos 0) ≡ Ok (record { 0 = negsuc 3999999999999999999 }))
+    × (instant_of last (pos 0) ≡ Ok (record { 0 = pos 4000000000000000000 }))
+    × (instant_of first (pos 1) ≡ Err Beyond) × (instant_of last (negsuc 0) ≡ Err Beyond)
 unfolding leap sum days_of_years
 ends = (refl, refl, refl, refl)
 
 -- the first label of 2024 in GPS time, which was then 18 s ahead of UTC: 2023-12-31 23:59:42
-pub less_leap_seconds : instant_of (midnight 2024 1 1) (pos 18) ≡ At (record { 0 = pos 1704067182000000000 })
+pub less_leap_seconds : instant_of (midnight 2024 1 1) (pos 18) ≡ Ok (record { 0 = pos 1704067182000000000 })
 unfolding leap sum days_of_years
 less_leap_seconds = refl
 
@@ -45,6 +45,6 @@ leap_second = record { year = 2016; month = 12; day = 31; hour = 23; minute = 59
 
 -- 2000 has a leap day, 1900 has none; there is no year 0, and no second of 60
 pub reals : (real (midnight 2000 2 29) ≡ true) × (real (midnight 1900 2 29) ≡ false) × (real (midnight 0 1 1) ≡ false) × (real leap_second ≡ false)
-    × (instant_of leap_second (pos 0) ≡ Unreal)
+    × (instant_of leap_second (pos 0) ≡ Err Unreal)
 unfolding leap
 reals = (refl, refl, refl, refl, refl)

@@ -1,10 +1,11 @@
 -- The instant of a calendar: "The calendar of each epoch line becomes an instant."
-use Rattle.std.specs.Prelude.{ℕ, ◌+◌, ◌*◌, cond, ℤ, pos, ◌-ℤ◌, ◌*ℤ◌}
+use Rattle.std.specs.Prelude.{ℕ, ◌+◌, ◌*◌, cond, Result, Ok, Err, ℤ, pos, ◌-ℤ◌, ◌*ℤ◌}
+use Rattle.units.specs.declared.Nanoseconds.{Nanoseconds}
 use Rattle.common.specs.Time.{second as nanoseconds_in_second}
 use Rattle.checks.specs.Checks.{beyond}
 use Rattle.calendar.specs.declared.gregorian.Calendar.{Calendar}
-use Rattle.calendar.specs.declared.instants.InstantAnswer.{InstantAnswer}
-use Rattle.calendar.specs.declared.instants.InstantAnswer.TheVariants.{At, Unreal, Beyond}
+use Rattle.calendar.specs.declared.instants.InstantError.{InstantError}
+use Rattle.calendar.specs.declared.instants.InstantError.TheVariants.{Unreal, Beyond}
 use Rattle.calendar.specs.Gregorian.{hours_in_day, minutes_in_hour, seconds_in_minute, day_number, real}
 
 -- the seconds from 0001-01-01 00:00:00, without leap seconds
@@ -28,9 +29,9 @@ abbrev pub lessened : ℤ → ℤ → ℤ
 lessened t leaps = t -ℤ leaps *ℤ pos nanoseconds_in_second
 
 -- an instant, if it is within check 4
-abbrev pub within : ℤ → InstantAnswer
-within t = cond (beyond t) Beyond (At (record { 0 = t }))
+abbrev pub within : ℤ → Result Nanoseconds InstantError
+within t = cond (beyond t) (Err Beyond) (Ok (record { 0 = t }))
 
 -- the instant of a calendar less leap seconds, if it is real
-abbrev pub instant_of : Calendar → ℤ → InstantAnswer
-instant_of c leaps = cond (real c) (within (lessened (since1970 c) leaps)) Unreal
+abbrev pub instant_of : Calendar → ℤ → Result Nanoseconds InstantError
+instant_of c leaps = cond (real c) (within (lessened (since1970 c) leaps)) (Err Unreal)

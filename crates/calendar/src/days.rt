@@ -36,7 +36,7 @@ pub(crate) fn day_number(c: Calendar) -> u32
     requires { RealDate c }
     ensures { result ≡ day_number c }
 {
-    let years = years_in_days(c.year as u32 - 1);
-    let months = months_in_days(c.month as u32, is_leap(c.year));
-    years + (months + (c.day as u32 - 1))
+    let years = years_in_days(u32::from(c.year) - 1);
+    let months = months_in_days(u32::from(c.month), is_leap(c.year));
+    years + (months + (u32::from(c.day) - 1))
 }

@@ -3,7 +3,7 @@ ghost use Rattle.std.specs.Prelude.{◌≡◌, ◌≤◌};
 ghost use Rattle.calendar.specs.Gregorian.{months_in_year, leap, days_of_month, real_date, real_time, real};
 
 // A date and time of the Gregorian calendar, months and days from 1.
-#[derive(Clone, Copy)]
+#[derive(Clone, Copy, Debug, PartialEq, Eq)]
 pub struct Calendar {
     pub year: u16,
     pub month: u8,
@@ -33,16 +33,11 @@ pub(crate) const SECONDS_IN_MINUTE: u8 = 60;
 const NANOSECONDS_IN_SECOND: u32 = 1_000_000_000;
 
 // Whether a year is a leap year.
+#[tactic(auto, unfolding(crate::specs::Gregorian::leap))]
 pub(crate) fn is_leap(year: u16) -> bool
     ensures { result ≡ leap year }
 {
-    if year % 4 != 0 {
-        return false;
-    }
-    if year % 100 != 0 {
-        return true;
-    }
-    year % 400 == 0
+    year.is_multiple_of(4) && (!year.is_multiple_of(100) || year.is_multiple_of(400))
 }
 
 // The days of a month.
@@ -61,46 +56,24 @@ fn month_length(month: u8, leap: bool) -> u8
 fn is_date(c: Calendar) -> bool
     ensures { result ≡ real_date c }
 {
-    if c.year < 1 {
-        return false;
-    }
-    if c.year > LAST_YEAR {
-        return false;
-    }
-    if c.month < 1 {
-        return false;
-    }
-    if c.month > MONTHS_IN_YEAR {
-        return false;
-    }
-    if c.day < 1 {
-        return false;
-    }
-    c.day <= month_length(c.month, is_leap(c.year))
+    (1..=LAST_YEAR).contains(&c.year)
+        && (1..=MONTHS_IN_YEAR).contains(&c.month)
+        && (1..=month_length(c.month, is_leap(c.year))).contains(&c.day)
 }
 
 // Whether there is such a time of day.
 fn is_time(c: Calendar) -> bool
     ensures { result ≡ real_time c }
 {
-    if c.hour >= HOURS_IN_DAY {
-        return false;
-    }
-    if c.minute >= MINUTES_IN_HOUR {
-        return false;
-    }
-    if c.second >= SECONDS_IN_MINUTE {
-        return false;
-    }
-    c.nanosecond < NANOSECONDS_IN_SECOND
+    c.hour < HOURS_IN_DAY
+        && c.minute < MINUTES_IN_HOUR
+        && c.second < SECONDS_IN_MINUTE
+        && c.nanosecond < NANOSECONDS_IN_SECOND
 }
 
 // Whether there is such a date and time.
 pub fn is_real(c: Calendar) -> bool
     ensures { result ≡ real c }
 {
-    if !is_date(c) {
-        return false;
-    }
-    is_time(c)
+    is_date(c) && is_time(c)
 }

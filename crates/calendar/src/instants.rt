@@ -8,10 +8,9 @@ use crate::days::day_number;
 use crate::gregorian::{Calendar, HOURS_IN_DAY, MINUTES_IN_HOUR, SECONDS_IN_MINUTE, is_real};
 use units::{LeapSeconds, Nanoseconds, SECOND};
 
-// What a calendar is: an instant, no real date and time, or one whose instant is beyond the limit of check 4.
-#[derive(Clone, Copy)]
-pub enum InstantAnswer {
-    At(Nanoseconds),
+// Why a calendar has no instant: it is no real date and time, or its instant is beyond the limit of check 4.
+#[derive(Clone, Copy, Debug, PartialEq, Eq)]
+pub enum InstantError {
     Unreal,
     Beyond,
 }
@@ -20,16 +19,16 @@ pub enum InstantAnswer {
 const ORIGIN_SECONDS: i64 = 62_135_596_800;
 
 // So many seconds from 1970 are beyond check 4, whatever nanoseconds are added.
-const MANY_SECONDS: i64 = 5_000_000_000;
+const MANY_SECONDS: u64 = 5_000_000_000;
 
 // The seconds from 0001-01-01 00:00:00.
-fn second_number(c: Calendar) -> u64
+fn second_number(c: Calendar) -> i64
     requires { Real c }
-    ensures { result ≡ second_number c }
+    ensures { result ≡ pos (second_number c) }
 {
-    let hours = HOURS_IN_DAY as u64 * day_number(c) as u64 + c.hour as u64;
-    let minutes = MINUTES_IN_HOUR as u64 * hours + c.minute as u64;
-    SECONDS_IN_MINUTE as u64 * minutes + c.second as u64
+    let hours = i64::from(HOURS_IN_DAY) * i64::from(day_number(c)) + i64::from(c.hour);
+    let minutes = i64::from(MINUTES_IN_HOUR) * hours + i64::from(c.minute);
+    i64::from(SECONDS_IN_MINUTE) * minutes + i64::from(c.second)
 }
 
 // The seconds from 1970-01-01 00:00:00, less leap seconds.
@@ -37,17 +36,14 @@ fn seconds_less(c: Calendar, leap_seconds: LeapSeconds) -> i64
     requires { Real c }
     ensures { result ≡ seconds_less c leap_seconds.0 }
 {
-    second_number(c) as i64 - ORIGIN_SECONDS - leap_seconds.0 as i64
+    second_number(c) - ORIGIN_SECONDS - i64::from(leap_seconds.0)
 }
 
 // Whether seconds are so far from 1970 that they are beyond check 4.
 fn is_far(seconds: i64) -> bool
     ensures { result ≡ far seconds }
 {
-    if seconds > MANY_SECONDS {
-        return true;
-    }
-    seconds < -MANY_SECONDS
+    seconds.unsigned_abs() > MANY_SECONDS
 }
 
 // Seconds and the nanoseconds after them, in nanoseconds.
@@ -55,23 +51,23 @@ fn joined(seconds: i64, nanoseconds: u32) -> Nanoseconds
     requires { nat_abs seconds ≤ many_seconds }
     ensures { result.0 ≡ seconds *ℤ pos second +ℤ pos nanoseconds }
 {
-    Nanoseconds(seconds * SECOND + nanoseconds as i64)
+    Nanoseconds(seconds * SECOND + i64::from(nanoseconds))
 }
 
 // The instant of a calendar, less leap seconds.
-pub fn instant_of(c: Calendar, leap_seconds: LeapSeconds) -> InstantAnswer
+pub fn instant_of(c: Calendar, leap_seconds: LeapSeconds) -> Result<Nanoseconds, InstantError>
     ensures { result ≡ instant_of c leap_seconds.0 }
 {
     if !is_real(c) {
-        return InstantAnswer::Unreal;
+        return Err(InstantError::Unreal);
     }
     let seconds = seconds_less(c, leap_seconds);
     if is_far(seconds) {
-        return InstantAnswer::Beyond;
+        return Err(InstantError::Beyond);
     }
     let t = joined(seconds, c.nanosecond);
     if checks::beyond(t) {
-        return InstantAnswer::Beyond;
+        return Err(InstantError::Beyond);
     }
-    InstantAnswer::At(t)
+    Ok(t)
 }

@@ -6,4 +6,4 @@ mod gregorian;
 mod instants;
 
 pub use gregorian::{Calendar, is_real};
-pub use instants::{InstantAnswer, instant_of};
+pub use instants::{InstantError, instant_of};

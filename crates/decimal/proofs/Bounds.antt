@@ -2,17 +2,16 @@
 use mathlib.Core.Path.{◌≡◌, refl, sym, ◌∙◌, subst}
 use mathlib.Core.List.{List, [], ◌∷◌}
 use Prim.Native.Nat.{ℕ, suc, ◌+◌, ◌-◌, ◌*◌, ◌^◌, ◌≤◌, ◌<◌}
-use native.Mathlib.Nat.{le_refl, lt_of_lt_of_le, pow-suc, pow-le-pow_right}
+use native.Mathlib.Nat.{lt_of_lt_of_le, pow-suc, pow-le-pow_right}
 use native.Mathlib.Numerals.{add-one}
 use native.Mathlib.Omega.{arith}
 use mathlib.Core.Bool.{Bool, true, false, cond, ◌&&◌}
 use lib.Dec.{T, leb, ltb, eqb, ltb→lt, lt→ltb, lit<}
 use lib.ListN.{length, take, drop, length-drop}
 use lib.Seq.{length-take-le}
+use Rattle.std.proofs.Common.{Option, None, Some}
 use Rattle.decimal.specs.declared.reading.Number.{Number}
-use Rattle.decimal.specs.declared.reading.Field.{Field}
-use Rattle.decimal.specs.declared.reading.Field.TheVariants.{Holds, NoNumber}
-use Rattle.decimal.proofs.Bytes.{digit_bounds}
+use Rattle.decimal.proofs.Bytes.{digit_bounds, blanks_shorter}
 use Rattle.decimal.specs.Reading.{is_digit, after_blanks, digits_behind, some_digits, signed_digits, with_decimals, most_columns, whole_of, decimal_of}
 
 -- one digit more
@@ -23,15 +22,15 @@ pub ten_mono : (k j : ℕ) → k ≤ j → 10 ^ k ≤ 10 ^ j
 ten_mono k j h = pow-le-pow_right {n = 10} (lit< tt) h
 
 -- a number below m, if it is one
-abbrev below : ℕ → Field → Bool
-below m (Holds n) = ltb n.digits m
-below m NoNumber = true
+abbrev below : ℕ → Option Number → Bool
+below m (Some n) = ltb n.digits m
+below m None = true
 
-wider : (k j : ℕ) (f : Field) → k ≤ j → T (below (10 ^ k) f) → T (below (10 ^ j) f)
-wider k j (Holds n) h l = lt→ltb n.digits (10 ^ j) (lt_of_lt_of_le (ltb→lt n.digits (10 ^ k) l) (ten_mono k j h))
-wider k j NoNumber h l = tt
+wider : (k j : ℕ) (f : Option Number) → k ≤ j → T (below (10 ^ k) f) → T (below (10 ^ j) f)
+wider k j (Some n) h l = lt→ltb n.digits (10 ^ j) (lt_of_lt_of_le (ltb→lt n.digits (10 ^ k) l) (ten_mono k j h))
+wider k j None h l = tt
 
-by_test : (m : ℕ) (f : Field) (y : Bool) → (y ≡ true → T (below m f)) → T (below m (cond y f NoNumber))
+by_test : (m : ℕ) (f : Option Number) (y : Bool) → (y ≡ true → T (below m f)) → T (below m (cond y f None))
 by_test m f true h = h refl
 by_test m f false h = tt
 
@@ -57,36 +56,27 @@ signed_below (b ∷ t) signed = go (signed && eqb b 45)
     go true = wider (length t) (length (b ∷ t)) (some_digits true t) (omega arith) (some_below t true)
     go false = some_below (b ∷ t) false
 
-blanks_shorter : (t : List ℕ) → length (after_blanks t) ≤ length t
-unfolding after_blanks
-blanks_shorter [] = le_refl 0
-blanks_shorter (b ∷ t) = go (eqb b 32) (blanks_shorter t)
-  where
-    go : (y : Bool) → length (after_blanks t) ≤ length t → length (cond y (after_blanks t) (b ∷ t)) ≤ length (b ∷ t)
-    go true h = omega arith
-    go false h = le_refl (length (b ∷ t))
-
 whole_below : (t : List ℕ) (signed : Bool) → T (below (10 ^ length t) (whole_of signed t))
 whole_below t signed =
     let f = signed_digits signed (after_blanks t) in
     by_test (10 ^ length t) f (leb (length t) most_columns) (λ e. wider (length (after_blanks t)) (length t) f (blanks_shorter t) (signed_below (after_blanks t) signed))
 
 -- what a field that holds a number says of it
-held : (m : ℕ) (f : Field) (n : Number) → f ≡ Holds n → T (below m f) → n.digits < m
-held m f n e h = ltb→lt n.digits m (subst (λ (g : Field). T (below m g)) e h)
+held : (m : ℕ) (f : Option Number) (n : Number) → f ≡ Some n → T (below m f) → n.digits < m
+held m f n e h = ltb→lt n.digits m (subst (λ (g : Option Number). T (below m g)) e h)
 
-pub whole-small : (t : List ℕ) (signed : Bool) (n : Number) → whole_of signed t ≡ Holds n → n.digits < 10 ^ length t
+pub whole-small : (t : List ℕ) (signed : Bool) (n : Number) → whole_of signed t ≡ Some n → n.digits < 10 ^ length t
 whole-small t signed n e = held (10 ^ length t) (whole_of signed t) n e (whole_below t signed)
 
 -- ---- with a point
 
-decimals_below : (f : Field) (t : List ℕ) (k j : ℕ) → T (below (10 ^ k) f) → k + length t ≡ suc j → T (below (10 ^ j) (with_decimals f t))
+decimals_below : (f : Option Number) (t : List ℕ) (k j : ℕ) → T (below (10 ^ k) f) → k + length t ≡ suc j → T (below (10 ^ j) (with_decimals f t))
 unfolding with_decimals
-decimals_below NoNumber t k j h e = tt
-decimals_below (Holds n) [] k j h e = tt
-decimals_below (Holds n) (b ∷ t) k j h e = by_test (10 ^ j) (digits_behind n.negative n.digits t) (eqb b 46) (λ f. digits_below t n.negative n.digits k j (ltb→lt n.digits (10 ^ k) h) (omega arith))
+decimals_below None t k j h e = tt
+decimals_below (Some n) [] k j h e = tt
+decimals_below (Some n) (b ∷ t) k j h e = by_test (10 ^ j) (digits_behind n.negative n.digits t) (eqb b 46) (λ f. digits_below t n.negative n.digits k j (ltb→lt n.digits (10 ^ k) h) (omega arith))
 
-pub decimal_small : (t : List ℕ) (signed : Bool) (at j : ℕ) (n : Number) → at ≤ length t → length t ≡ suc j → decimal_of signed at t ≡ Holds n → n.digits < 10 ^ j
+pub decimal_small : (t : List ℕ) (signed : Bool) (at j : ℕ) (n : Number) → at ≤ length t → length t ≡ suc j → decimal_of signed at t ≡ Some n → n.digits < 10 ^ j
 decimal_small t signed at j n h l e =
     let f = whole_of signed (take at t) in
     let k = length-take-le at t h in

@@ -1,26 +1,28 @@
--- A text byte by byte: what the loops over blanks and digits take off the text that is left, from place i on. Assumes nothing.
+-- A text byte by byte: what the readers of blanks, digits, a minus and a point take off its front. Assumes nothing.
 use mathlib.Core.Path.{◌≡◌, refl, sym, ap, ◌∙◌}
 use mathlib.Core.List.{List, [], ◌∷◌}
-use Prim.Native.Nat.{ℕ, ◌+◌, ◌-◌, ◌*◌, ◌≤◌, ◌<◌}
+use Prim.Native.Nat.{ℕ, suc, ◌+◌, ◌-◌, ◌*◌, ◌≤◌, ◌<◌}
+use native.Mathlib.Nat.{le_refl}
 use native.Mathlib.Omega.{arith}
-use mathlib.Core.Bool.{Bool, true, false, cond, ◌&&◌, false≢true}
-use lib.Dec.{leb, eqb}
-use lib.ListN.{length, get_or, drop, drop_of_length-le}
-use borrow.Author.Tests.{le-leb, lt-leb, eq-eqb, ne_eqb, leb-true}
+use mathlib.Core.Bool.{Bool, true, false, cond, not, ◌&&◌, false≢true}
+use lib.Dec.{leb, ltb, eqb}
+use lib.ListN.{length, get_or, take, drop, drop_of_length-le, length-drop}
+use lib.Seq.{take_all}
+use borrow.Author.Tests.{le-leb, eqb-true, leb-true, ltb-false}
+use Rattle.std.proofs.Math.Bool.{and-true}
+use Rattle.std.proofs.lemmas.List.Sums.{prefix_len-le-length}
 use Rattle.common.proofs.Dropped.{dropped}
-use Rattle.decimal.specs.declared.reading.Field.{Field}
-use Rattle.decimal.specs.declared.reading.Field.TheVariants.{Holds, NoNumber}
-use Rattle.decimal.specs.Reading.{is_digit, after_blanks, digits_behind, some_digits, signed_digits, with_decimals}
+use Rattle.std.proofs.Common.{Option, None, Some}
+use Rattle.std.specs.Cmp.Lexicographic.{pointwise}
+use Rattle.std.specs.List.{position_or_len, position}
+use Rattle.std.specs.Option.{unwrap_or}
+use Rattle.decimal.specs.declared.reading.Number.{Number}
+use Rattle.decimal.specs.Reading.{blank, minus, point, is_digit, after_blanks, digits_behind, some_digits, signed_digits, with_decimals}
 
--- ---- tests on a byte
+-- ---- digits
+
 pub digit_yes : (b : ℕ) → 48 ≤ b → b ≤ 57 → is_digit b ≡ true
 digit_yes b h l = ap (λ (y : Bool). y && leb b 57) (le-leb 48 b h) ∙ le-leb b 57 l
-
-digit_low : (b : ℕ) → b < 48 → is_digit b ≡ false
-digit_low b h = ap (λ (y : Bool). y && leb b 57) (lt-leb 48 b h)
-
-digit_high : (b : ℕ) → 57 < b → is_digit b ≡ false
-digit_high b h = ap (λ (y : Bool). y && leb b 57) (le-leb 48 b (omega arith)) ∙ lt-leb b 57 h
 
 pub digit_bounds : (b : ℕ) → is_digit b ≡ true → (48 ≤ b) × (b ≤ 57)
 digit_bounds b e = go (leb 48 b) (leb b 57) refl refl e
@@ -30,89 +32,117 @@ digit_bounds b e = go (leb 48 b) (leb b 57) refl refl e
     go true false f g h = absurd (false≢true h)
     go false y f g h = absurd (false≢true h)
 
-module _ (t : List ℕ) (i : ℕ) where
-  -- the byte at the place
-  abbrev pub here : ℕ
-  here = get_or t i 0
+-- the digits from a place on, by the byte there
+pub by_digit : (s : Bool) (n i : ℕ) (t : List ℕ) (y : Bool) → i < length t → is_digit (get_or t i 0) ≡ y
+    → digits_behind s n (drop i t) ≡ cond y (digits_behind s (n * 10 + (get_or t i 0 - 48)) (drop (i + 1) t)) None
+unfolding digits_behind
+by_digit s n i t y h e =
+    let further = digits_behind s (n * 10 + (get_or t i 0 - 48)) (drop (i + 1) t) in
+    ap (digits_behind s n) (dropped t i 0 h) ∙ ap (λ (z : Bool). cond z further None) e
 
-  next : i < length t → drop i t ≡ here ∷ drop (i + 1) t
-  next h = dropped t i 0 h
+pub digits_end : (s : Bool) (n i : ℕ) (t : List ℕ) → length t ≤ i → digits_behind s n (drop i t) ≡ Some (record { negative = s; digits = n })
+unfolding digits_behind
+digits_end s n i t h = ap (digits_behind s n) (drop_of_length-le t h)
 
-  none : length t ≤ i → drop i t ≡ []
-  none h = drop_of_length-le t h
+-- ---- blanks
 
-  -- ---- blanks
-  pub blank-first : i < length t → here ≡ 32 → after_blanks (drop (i + 1) t) ≡ after_blanks (drop i t)
-  unfolding after_blanks
-  blank-first h e = sym (ap after_blanks (next h) ∙ ap (λ (y : Bool). cond y (after_blanks (drop (i + 1) t)) (here ∷ drop (i + 1) t)) (eq-eqb here 32 e))
+-- what passes where blanks are looked for
+abbrev pub no_blank : ℕ → Bool
+no_blank b = not (eqb b blank)
 
-  pub blank_not : i < length t → (here ≡ 32 → ⊥) → drop i t ≡ after_blanks (drop i t)
-  unfolding after_blanks
-  blank_not h e = next h ∙ sym (ap after_blanks (next h) ∙ ap (λ (y : Bool). cond y (after_blanks (drop (i + 1) t)) (here ∷ drop (i + 1) t)) (ne_eqb here 32 e))
+-- the place that `position` finds, or the end
+pub place_found : (p : ℕ → Bool) (t : List ℕ) (r : Option ℕ) (k : ℕ) → r ≡ position p t → k ≡ unwrap_or r (length t) → k ≡ position_or_len p t
+place_found p t r k e f = f ∙ ap (λ (o : Option ℕ). unwrap_or o (length t)) e ∙ go (ltb (position_or_len p t) (length t)) refl
+  where
+    go : (y : Bool) → ltb (position_or_len p t) (length t) ≡ y → unwrap_or (cond y (Some (position_or_len p t)) None) (length t) ≡ position_or_len p t
+    go true g = refl
+    go false g = omega (arith, ltb-false _ _ g, prefix_len-le-length (λ (x : ℕ). not (p x)) t)
 
-  pub blank_end : length t ≤ i → drop i t ≡ after_blanks (drop i t)
-  unfolding after_blanks
-  blank_end h = none h ∙ sym (ap after_blanks (none h))
+blanks_dropped : (t : List ℕ) → drop (position_or_len no_blank t) t ≡ after_blanks t
+unfolding after_blanks
+blanks_dropped [] = refl
+blanks_dropped (b ∷ t) = go (eqb b blank) (blanks_dropped t)
+  where
+    k : ℕ
+    k = position_or_len no_blank t
 
-  -- ---- digits
-  module _ (s : Bool) (n : ℕ) where
-    -- what the digits behind this one give
-    abbrev further : Field
-    further = digits_behind s (n * 10 + (here - 48)) (drop (i + 1) t)
+    one_more : 1 + k ≡ suc k
+    one_more = omega arith
 
-    by_digit : (y : Bool) → i < length t → is_digit here ≡ y → digits_behind s n (drop i t) ≡ cond y further NoNumber
-    unfolding digits_behind
-    by_digit y h e = ap (digits_behind s n) (next h) ∙ ap (λ (z : Bool). cond z further NoNumber) e
+    go : (y : Bool) → drop k t ≡ after_blanks t → drop (cond (not (not y)) (1 + k) 0) (b ∷ t) ≡ cond y (after_blanks t) (b ∷ t)
+    go true e = ap (λ (j : ℕ). drop j (b ∷ t)) one_more ∙ e
+    go false e = refl
 
-    pub digit-first : i < length t → 48 ≤ here → here ≤ 57 → further ≡ digits_behind s n (drop i t)
-    digit-first h p q = sym (by_digit true h (digit_yes here p q))
+-- what is left behind the place that `position` finds, or the end
+pub behind_position : (t : List ℕ) (r : Option ℕ) (k : ℕ) → r ≡ position no_blank t → k ≡ unwrap_or r (length t) → take (length t - k) (drop k t) ≡ after_blanks t
+behind_position t r k e f =
+    take_all (length t - k) (drop k t) (omega (arith, length-drop k t))
+    ∙ ap (λ (j : ℕ). drop j t) (place_found no_blank t r k e f)
+    ∙ blanks_dropped t
 
-    pub digit_below : i < length t → here < 48 → NoNumber ≡ digits_behind s n (drop i t)
-    digit_below h e = sym (by_digit false h (digit_low here e))
+pub blanks_shorter : (t : List ℕ) → length (after_blanks t) ≤ length t
+unfolding after_blanks
+blanks_shorter [] = le_refl 0
+blanks_shorter (b ∷ t) = go (eqb b blank) (blanks_shorter t)
+  where
+    go : (y : Bool) → length (after_blanks t) ≤ length t → length (cond y (after_blanks t) (b ∷ t)) ≤ length (b ∷ t)
+    go true h = omega arith
+    go false h = le_refl (length (b ∷ t))
 
-    pub digit_above : i < length t → 57 < here → NoNumber ≡ digits_behind s n (drop i t)
-    digit_above h e = sym (by_digit false h (digit_high here e))
+-- ---- one digit or more, perhaps behind a minus
 
-    pub digit_end : length t ≤ i → Holds (record { negative = s; digits = n }) ≡ digits_behind s n (drop i t)
-    unfolding digits_behind
-    digit_end h = sym (ap (digits_behind s n) (none h))
+pub some_first : (s : Bool) (t : List ℕ) → 0 < length t → digits_behind s 0 t ≡ some_digits s t
+unfolding some_digits
+some_first s [] h = absurd (omega arith)
+some_first s (b ∷ t) h = refl
 
-    -- ---- the point, behind a number
-    by_point : (y : Bool) → i < length t → eqb here 46 ≡ y → with_decimals (Holds (record { negative = s; digits = n })) (drop i t) ≡ cond y (digits_behind s n (drop (i + 1) t)) NoNumber
-    unfolding with_decimals
-    by_point y h e = ap (with_decimals (Holds (record { negative = s; digits = n }))) (next h) ∙ ap (λ (z : Bool). cond z (digits_behind s n (drop (i + 1) t)) NoNumber) e
+pub some_none : (s : Bool) (t : List ℕ) → length t ≡ 0 → some_digits s t ≡ None
+unfolding some_digits
+some_none s [] h = refl
+some_none s (b ∷ t) h = absurd (omega arith)
 
-    pub point-first : i < length t → here ≡ 46 → with_decimals (Holds (record { negative = s; digits = n })) (drop i t) ≡ digits_behind s n (drop (i + 1) t)
-    point-first h e = by_point true h (eq-eqb here 46 e)
+-- a text that begins with one byte, and what stands behind it
+pub begins_one : (b : ℕ) (t : List ℕ) → pointwise eqb (take 1 t) (b ∷ []) ≡ true → t ≡ b ∷ drop 1 t
+begins_one b [] e = absurd (false≢true e)
+begins_one b (d ∷ t) e = go (eqb d b) refl e
+  where
+    go : (y : Bool) → eqb d b ≡ y → y && true ≡ true → d ∷ t ≡ b ∷ t
+    go true f g = ap (λ (n : ℕ). n ∷ t) (eqb-true d b f)
+    go false f g = absurd (false≢true g)
 
-    pub point_not : i < length t → (here ≡ 46 → ⊥) → with_decimals (Holds (record { negative = s; digits = n })) (drop i t) ≡ NoNumber
-    point_not h e = by_point false h (ne_eqb here 46 e)
+pub minus_first : (signed : Bool) (t rest : List ℕ)
+    → signed ≡ true → pointwise eqb (take 1 t) (minus ∷ []) ≡ true → rest ≡ drop 1 t → some_digits true rest ≡ signed_digits signed t
+unfolding signed_digits
+minus_first signed t rest s e f =
+    let g = begins_one minus t e in
+    sym
+    (ap (signed_digits signed) g
+    ∙ ap (λ (y : Bool). cond y (some_digits true (drop 1 t)) (some_digits false (minus ∷ drop 1 t))) (ap (λ (y : Bool). y && true) s)
+    ∙ ap (some_digits true) (sym f))
 
-  -- ---- one digit or more, perhaps behind a minus
-  pub some_first : (s : Bool) → i < length t → some_digits s (drop i t) ≡ digits_behind s 0 (drop i t)
-  unfolding some_digits
-  some_first s h = ap (some_digits s) (next h) ∙ sym (ap (digits_behind s 0) (next h))
+pub minus_none : (signed : Bool) (t : List ℕ) → pointwise eqb (take 1 t) (minus ∷ []) ≡ false → some_digits false t ≡ signed_digits signed t
+unfolding signed_digits some_digits
+minus_none signed [] e = refl
+minus_none signed (b ∷ t) e = sym (ap (λ (y : Bool). cond y (some_digits true t) (some_digits false (b ∷ t))) (go signed (sym (and-true (eqb b minus)) ∙ e)))
+  where
+    go : (y : Bool) → eqb b minus ≡ false → y && eqb b minus ≡ false
+    go true g = g
+    go false g = refl
 
-  pub some_none : (s : Bool) → length t ≤ i → some_digits s (drop i t) ≡ NoNumber
-  unfolding some_digits
-  some_none s h = ap (some_digits s) (none h)
+-- no minus where none may stand
+pub unsigned : (signed : Bool) (t : List ℕ) → signed ≡ false → some_digits false t ≡ signed_digits signed t
+unfolding signed_digits some_digits
+unsigned signed [] s = refl
+unsigned signed (b ∷ t) s = ap (λ (y : Bool). cond (y && eqb b minus) (some_digits true t) (some_digits false (b ∷ t))) (sym s)
 
-  pub signed_none : (signed : Bool) → length t ≤ i → signed_digits signed (drop i t) ≡ NoNumber
-  unfolding signed_digits
-  signed_none signed h = ap (signed_digits signed) (none h)
+-- ---- the point, behind a number
 
-  by_minus : (signed y : Bool) → i < length t → signed && eqb here 45 ≡ y → signed_digits signed (drop i t) ≡ cond y (some_digits true (drop (i + 1) t)) (some_digits false (drop i t))
-  unfolding signed_digits
-  by_minus signed y h e =
-      ap (signed_digits signed) (next h)
-      ∙ ap (λ (z : Bool). cond z (some_digits true (drop (i + 1) t)) (some_digits false (here ∷ drop (i + 1) t))) e
-      ∙ ap (λ (l : List ℕ). cond y (some_digits true (drop (i + 1) t)) (some_digits false l)) (sym (next h))
+pub point_first : (n : Number) (t rest : List ℕ) → pointwise eqb (take 1 t) (point ∷ []) ≡ true → rest ≡ drop 1 t → digits_behind n.negative n.digits rest ≡ with_decimals (Some n) t
+unfolding with_decimals
+point_first n t rest e f = ap (digits_behind n.negative n.digits) f ∙ sym (ap (with_decimals (Some n)) (begins_one point t e))
 
-  pub minus-first : (signed : Bool) → i < length t → signed ≡ true → here ≡ 45 → signed_digits signed (drop i t) ≡ some_digits true (drop (i + 1) t)
-  minus-first signed h e f = by_minus signed true h (ap (λ (y : Bool). y && eqb here 45) e ∙ eq-eqb here 45 f)
-
-  pub minus-other : (signed : Bool) → i < length t → signed ≡ true → (here ≡ 45 → ⊥) → signed_digits signed (drop i t) ≡ some_digits false (drop i t)
-  minus-other signed h e f = by_minus signed false h (ap (λ (y : Bool). y && eqb here 45) e ∙ ne_eqb here 45 f)
-
-  pub minus_none : (signed : Bool) → i < length t → signed ≡ false → signed_digits signed (drop i t) ≡ some_digits false (drop i t)
-  minus_none signed h e = by_minus signed false h (ap (λ (y : Bool). y && eqb here 45) e)
+pub point_none : (f : Option Number) (t : List ℕ) → pointwise eqb (take 1 t) (point ∷ []) ≡ false → with_decimals f t ≡ None
+unfolding with_decimals
+point_none None t e = refl
+point_none (Some n) [] e = refl
+point_none (Some n) (b ∷ t) e = ap (λ (y : Bool). cond y (digits_behind n.negative n.digits t) None) (sym (and-true (eqb b point)) ∙ e)

@@ -9,9 +9,8 @@ use lib.Dec.{T, leb, eqb}
 use lib.ListN.{length, replicate, take, drop, take-append-drop, length-append, length-drop}
 use lib.Seq.{take_at, length-take-le, drop-append-add}
 use borrow.Author.Tests.{le-leb, eqb-true, ne_eqb}
+use Rattle.std.proofs.Common.{Option, None, Some}
 use Rattle.decimal.specs.declared.reading.Number.{Number}
-use Rattle.decimal.specs.declared.reading.Field.{Field}
-use Rattle.decimal.specs.declared.reading.Field.TheVariants.{Holds, NoNumber}
 use Rattle.decimal.specs.Reading.{is_digit, after_blanks, digits_behind, some_digits, signed_digits, with_decimals, most_columns, whole_of, decimal_of}
 use Rattle.decimal.proofs.Bytes.{digit_yes, digit_bounds}
 use Rattle.decimal.specs.Shown.{bytes, Digits, behind, sign, Whole, Decimal}
@@ -21,12 +20,12 @@ use Rattle.decimal.specs.Shown.{bytes, Digits, behind, sign, Whole, Decimal}
 digit_read : (d : ℕ) → d < 10 → is_digit (48 + d) ≡ true
 digit_read d h = digit_yes (48 + d) (omega arith) (omega arith)
 
-digits_read : (s : Bool) (n : ℕ) (ds : List ℕ) → Digits ds → digits_behind s n (bytes ds) ≡ Holds (record { negative = s; digits = behind n ds })
+digits_read : (s : Bool) (n : ℕ) (ds : List ℕ) → Digits ds → digits_behind s n (bytes ds) ≡ Some (record { negative = s; digits = behind n ds })
 unfolding digits_behind Digits behind
 digits_read s n [] h = refl
 digits_read s n (d ∷ ds) h =
     let e : 48 + d - 48 ≡ d = omega arith in
-    ap (λ (y : Bool). cond y (digits_behind s (n * 10 + (48 + d - 48)) (bytes ds)) NoNumber) (digit_read d h.0)
+    ap (λ (y : Bool). cond y (digits_behind s (n * 10 + (48 + d - 48)) (bytes ds)) None) (digit_read d h.0)
     ∙ ap (λ (k : ℕ). digits_behind s (n * 10 + k) (bytes ds)) e
     ∙ digits_read s (n * 10 + d) ds h.1
 
@@ -37,7 +36,7 @@ blanks_read (suc k) t e = blanks_read k t e
 
 -- the sign and the digits
 signed_read : (signed s : Bool) (d : ℕ) (ds : List ℕ) → Digits (d ∷ ds) → T (not s || signed)
-    → (after_blanks (sign s ++ bytes (d ∷ ds)) ≡ sign s ++ bytes (d ∷ ds)) × (signed_digits signed (sign s ++ bytes (d ∷ ds)) ≡ Holds (record { negative = s; digits = behind 0 (d ∷ ds) }))
+    → (after_blanks (sign s ++ bytes (d ∷ ds)) ≡ sign s ++ bytes (d ∷ ds)) × (signed_digits signed (sign s ++ bytes (d ∷ ds)) ≡ Some (record { negative = s; digits = behind 0 (d ∷ ds) }))
 unfolding after_blanks signed_digits some_digits
 signed_read true true d ds h a = (refl, digits_read true 0 (d ∷ ds) h)
 signed_read false true d ds h a = absurd a
@@ -52,28 +51,28 @@ signed_read signed false d ds h a =
     no_minus true e = e
     no_minus false e = refl
 
-pub whole_read : (signed : Bool) (t : List ℕ) (n : Number) → Whole signed t n → length t ≤ most_columns → whole_of signed t ≡ Holds n
+pub whole_read : (signed : Bool) (t : List ℕ) (n : Number) → Whole signed t n → length t ≤ most_columns → whole_of signed t ≡ Some n
 whole_read signed t n w h =
     let u = sign n.negative ++ bytes (w.first ∷ w.others) in
     let r = signed_read signed n.negative w.first w.others w.digits w.allowed in
-    ap (λ (y : Bool). cond y (signed_digits signed (after_blanks t)) NoNumber) (le-leb (length t) most_columns h)
+    ap (λ (y : Bool). cond y (signed_digits signed (after_blanks t)) None) (le-leb (length t) most_columns h)
     ∙ ap (λ (x : List ℕ). signed_digits signed (after_blanks x)) w.text
     ∙ ap (signed_digits signed) (blanks_read w.blanks u r.0)
     ∙ r.1
-    ∙ ap (λ (v : ℕ). Holds (record { negative = n.negative; digits = v })) (sym w.value)
+    ∙ ap (λ (v : ℕ). Some (record { negative = n.negative; digits = v })) (sym w.value)
 
 -- ---- read, so written
 
 -- the number of a field, and whether it holds one
-abbrev number : Field → Number
-number (Holds n) = n
-number NoNumber = record { negative = false; digits = 0 }
+abbrev number : Option Number → Number
+number (Some n) = n
+number None = record { negative = false; digits = 0 }
 
-abbrev holds : Field → Bool
-holds (Holds n) = true
-holds NoNumber = false
+abbrev holds : Option Number → Bool
+holds (Some n) = true
+holds None = false
 
-none : {A : Type 0} (n : Number) → NoNumber ≡ Holds n → A
+none : {A : Type 0} (n : Number) → None ≡ Some n → A
 none n e = absurd (false≢true (ap holds e))
 
 -- digits alone
@@ -83,13 +82,13 @@ record Written (s : Bool) (n : ℕ) (t : List ℕ) (m : Number) : Type 0 where
   text : t ≡ bytes ds
   number_is : m ≡ record { negative = s; digits = behind n ds }
 
-digits-written : (s : Bool) (n : ℕ) (t : List ℕ) (m : Number) → digits_behind s n t ≡ Holds m → Written s n t m
+digits-written : (s : Bool) (n : ℕ) (t : List ℕ) (m : Number) → digits_behind s n t ≡ Some m → Written s n t m
 unfolding digits_behind Digits behind
 digits-written s n [] m e = record { ds = []; are = tt; text = refl; number_is = sym (ap number e) }
 digits-written s n (b ∷ t) m e = go (is_digit b) refl (digits-written s (n * 10 + (b - 48)) t m) e
   where
-    go : (y : Bool) → is_digit b ≡ y → (digits_behind s (n * 10 + (b - 48)) t ≡ Holds m → Written s (n * 10 + (b - 48)) t m)
-        → cond y (digits_behind s (n * 10 + (b - 48)) t) NoNumber ≡ Holds m → Written s n (b ∷ t) m
+    go : (y : Bool) → is_digit b ≡ y → (digits_behind s (n * 10 + (b - 48)) t ≡ Some m → Written s (n * 10 + (b - 48)) t m)
+        → cond y (digits_behind s (n * 10 + (b - 48)) t) None ≡ Some m → Written s n (b ∷ t) m
     go true f rest g =
         let w = rest g in
         let k = digit_bounds b f in
@@ -105,7 +104,7 @@ record Numbered (s : Bool) (t : List ℕ) (m : Number) : Type 0 where
   text : t ≡ bytes (d ∷ ds)
   number_is : m ≡ record { negative = s; digits = behind 0 (d ∷ ds) }
 
-some_written : (s : Bool) (t : List ℕ) (m : Number) → some_digits s t ≡ Holds m → Numbered s t m
+some_written : (s : Bool) (t : List ℕ) (m : Number) → some_digits s t ≡ Some m → Numbered s t m
 unfolding some_digits
 some_written s [] m e = none m e
 some_written s (b ∷ t) m e = go (digits-written s 0 (b ∷ t) m e)
@@ -127,15 +126,15 @@ record Signed (signed : Bool) (t : List ℕ) (m : Number) : Type 0 where
   text : t ≡ sign s ++ bytes (d ∷ ds)
   number_is : m ≡ record { negative = s; digits = behind 0 (d ∷ ds) }
 
-signed-written : (signed : Bool) (t : List ℕ) (m : Number) → signed_digits signed t ≡ Holds m → Signed signed t m
+signed-written : (signed : Bool) (t : List ℕ) (m : Number) → signed_digits signed t ≡ Some m → Signed signed t m
 unfolding signed_digits
 signed-written signed [] m e = none m e
 signed-written signed (b ∷ t) m e = go signed (eqb b 45) refl e
   where
-    plain : (y : Bool) → some_digits false (b ∷ t) ≡ Holds m → Signed y (b ∷ t) m
+    plain : (y : Bool) → some_digits false (b ∷ t) ≡ Some m → Signed y (b ∷ t) m
     plain y e = let w = some_written false (b ∷ t) m e in record { s = false; d = w.d; ds = w.ds; are = w.are; allowed = tt; text = w.text; number_is = w.number_is }
 
-    go : (x y : Bool) → eqb b 45 ≡ y → cond (x && y) (some_digits true t) (some_digits false (b ∷ t)) ≡ Holds m → Signed x (b ∷ t) m
+    go : (x y : Bool) → eqb b 45 ≡ y → cond (x && y) (some_digits true t) (some_digits false (b ∷ t)) ≡ Some m → Signed x (b ∷ t) m
     go true true f g =
         let w = some_written true t m g in
         record { s = true; d = w.d; ds = w.ds; are = w.are; allowed = tt; text = ap (λ (c : ℕ). c ∷ t) (eqb-true b 45 f) ∙ ap (λ (l : List ℕ). 45 ∷ l) w.text; number_is = w.number_is }
@@ -153,11 +152,11 @@ blanks-written (b ∷ t) = go (eqb b 32) refl (blanks-written t)
     go false e w = (0, refl)
 
 -- a test that must hold, and what it chose
-chosen : (y : Bool) (f : Field) (n : Number) → cond y f NoNumber ≡ Holds n → f ≡ Holds n
+chosen : (y : Bool) (f : Option Number) (n : Number) → cond y f None ≡ Some n → f ≡ Some n
 chosen true f n e = e
 chosen false f n e = none n e
 
-pub whole-written : (signed : Bool) (t : List ℕ) (n : Number) → whole_of signed t ≡ Holds n → Whole signed t n
+pub whole-written : (signed : Bool) (t : List ℕ) (n : Number) → whole_of signed t ≡ Some n → Whole signed t n
 whole-written signed t n e =
     let w = signed-written signed (after_blanks t) n (chosen (leb (length t) most_columns) (signed_digits signed (after_blanks t)) n e) in
     let b = blanks-written t in
@@ -174,7 +173,7 @@ whole-written signed t n e =
 
 -- ---- the same with a point
 
-pub decimal_read : (signed : Bool) (at : ℕ) (t : List ℕ) (n : Number) → Decimal signed at t n → length t ≤ most_columns → decimal_of signed at t ≡ Holds n
+pub decimal_read : (signed : Bool) (at : ℕ) (t : List ℕ) (n : Number) → Decimal signed at t n → length t ≤ most_columns → decimal_of signed at t ≡ Some n
 unfolding with_decimals
 decimal_read signed at t n w h =
     let rest : List ℕ = 46 ∷ bytes w.decimals in
@@ -182,25 +181,25 @@ decimal_read signed at t n w h =
     let p : take at t ≡ w.ahead = ap (take at) w.text ∙ take_at w.ahead rest at w.place in
     let z : at ≡ length w.ahead + 0 = omega (arith, w.place) in
     let q : drop at t ≡ rest = ap (drop at) w.text ∙ ap (λ (k : ℕ). drop k (w.ahead ++ rest)) z ∙ drop-append-add w.ahead rest 0 in
-    ap (λ (y : Bool). cond y (with_decimals (whole_of signed (take at t)) (drop at t)) NoNumber) (le-leb (length t) most_columns h)
+    ap (λ (y : Bool). cond y (with_decimals (whole_of signed (take at t)) (drop at t)) None) (le-leb (length t) most_columns h)
     ∙ ap (λ (x : List ℕ). with_decimals (whole_of signed x) (drop at t)) p
-    ∙ ap (λ (f : Field). with_decimals f (drop at t)) (whole_read signed w.ahead w.whole w.shows (omega (arith, l, h)))
-    ∙ ap (with_decimals (Holds w.whole)) q
+    ∙ ap (λ (f : Option Number). with_decimals f (drop at t)) (whole_read signed w.ahead w.whole w.shows (omega (arith, l, h)))
+    ∙ ap (with_decimals (Some w.whole)) q
     ∙ digits_read w.whole.negative w.whole.digits w.decimals w.digits
-    ∙ ap (λ (v : ℕ). Holds (record { negative = w.whole.negative; digits = v })) (sym w.value)
-    ∙ ap (λ (s : Bool). Holds (record { negative = s; digits = n.digits })) (sym w.sign_of)
+    ∙ ap (λ (v : ℕ). Some (record { negative = w.whole.negative; digits = v })) (sym w.value)
+    ∙ ap (λ (s : Bool). Some (record { negative = s; digits = n.digits })) (sym w.sign_of)
 
-pub decimal_written : (signed : Bool) (at : ℕ) (t : List ℕ) (n : Number) → decimal_of signed at t ≡ Holds n → Decimal signed at t n
+pub decimal_written : (signed : Bool) (at : ℕ) (t : List ℕ) (n : Number) → decimal_of signed at t ≡ Some n → Decimal signed at t n
 unfolding with_decimals
 decimal_written signed at t n e =
     go (whole_of signed (take at t)) (drop at t) refl refl (chosen (leb (length t) most_columns) (with_decimals (whole_of signed (take at t)) (drop at t)) n e)
   where
-    go : (f : Field) (r : List ℕ) → whole_of signed (take at t) ≡ f → drop at t ≡ r → with_decimals f r ≡ Holds n → Decimal signed at t n
-    go NoNumber r p q g = none n g
-    go (Holds m) [] p q g = none n g
-    go (Holds m) (b ∷ r) p q g = by_point (eqb b 46) refl g
+    go : (f : Option Number) (r : List ℕ) → whole_of signed (take at t) ≡ f → drop at t ≡ r → with_decimals f r ≡ Some n → Decimal signed at t n
+    go None r p q g = none n g
+    go (Some m) [] p q g = none n g
+    go (Some m) (b ∷ r) p q g = by_point (eqb b 46) refl g
       where
-        by_point : (y : Bool) → eqb b 46 ≡ y → cond y (digits_behind m.negative m.digits r) NoNumber ≡ Holds n → Decimal signed at t n
+        by_point : (y : Bool) → eqb b 46 ≡ y → cond y (digits_behind m.negative m.digits r) None ≡ Some n → Decimal signed at t n
         by_point true f g =
             let w = digits-written m.negative m.digits r n g in
             record {

@@ -1,4 +1,4 @@
 -- What the proofs of decimal share, and the laws that the crates above cite (`pub`).
-mod Bytes
+pub mod Bytes
 pub mod Bounds
 pub mod Grammar

@@ -3,4 +3,4 @@
 
 mod reading;
 
-pub use reading::{Field, Number, decimal_of, whole_of};
+pub use reading::{Number, decimal_of, whole_of};

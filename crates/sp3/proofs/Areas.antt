@@ -1,11 +1,12 @@
 -- Areas as they fill: values put at a place, and then others behind them. Assumes nothing.
 use mathlib.Core.Path.{◌≡◌, sym, ap, ◌∙◌}
 use mathlib.Core.List.{List, [], ◌∷◌, ◌++◌, append_assoc}
-use Prim.Native.Nat.{ℕ, suc, ◌+◌, ◌≤◌}
+use Prim.Native.Nat.{ℕ, ◌+◌, ◌≤◌}
 use native.Mathlib.Nat.{zero-add, add-zero}
 use native.Mathlib.Omega.{arith}
 use lib.ListN.{length, take, drop, set, length-append, length-drop, take-append-drop}
 use lib.Seq.{length-take-le, take_at, drop-append-add, drop-drop, sets-eq}
+use borrow.Rule.Slice.PartMut.{put_mid}
 use Rattle.common.specs.Outcome.{written}
 use Rattle.sp3.specs.Walks.{put_at}
 
@@ -33,15 +34,11 @@ pub length-put : {A : Type 0} (at : ℕ) (qs old : List A) → at + length qs �
 length-put at qs old h =
     omega (arith, length-append (take at old) (qs ++ drop (at + length qs) old), length-take-le at old (omega arith), length-append qs (drop (at + length qs) old), length-drop (at + length qs) old)
 
--- one value, and three, stored one by one
+-- one value stored
 pub one : {A : Type 0} (old : List A) (at : ℕ) (a : A) → at + 1 ≤ length old → set old at a ≡ put_at at (a ∷ []) old
 one old at a h = sets-eq (a ∷ []) old at h ∙ append_assoc (take at old) (a ∷ []) (drop (at + 1) old)
 
-pub three : {A : Type 0} (old : List A) (at : ℕ) (a b c : A) → at + 3 ≤ length old → set (set (set old at a) (at + 1) b) (at + 2) c ≡ put_at at (a ∷ b ∷ c ∷ []) old
-three old at a b c h =
-    let e1 : at + 1 ≡ suc at = omega arith in
-    let e2 : at + 2 ≡ suc (suc at) = omega arith in
-    ap (λ n. set (set (set old at a) n b) (at + 2) c) e1
-    ∙ ap (λ n. set (set (set old at a) (suc at) b) n c) e2
-    ∙ sets-eq (a ∷ b ∷ c ∷ []) old at h
-    ∙ append_assoc (take at old) (a ∷ b ∷ c ∷ []) (drop (at + 3) old)
+-- three written over a part of that length
+pub three : {A : Type 0} (old new : List A) (at k : ℕ) (a b c : A) → new ≡ a ∷ b ∷ c ∷ [] → k ≡ 3 → put_mid at k old new ≡ put_at at (a ∷ b ∷ c ∷ []) old
+three old new at k a b c e f =
+    ap (λ (n : ℕ). put_mid at n old new) f ∙ ap (put_mid at 3 old) e ∙ ap (λ l. take at old ++ (a ∷ b ∷ c ∷ l)) (drop-drop 3 at old)

@@ -11,7 +11,7 @@ use Rattle.sp3.specs.Walks.{any_fault_from}
 
 -- behind an epoch line
 timed : (L : List Line) → any_fault_from true L ≡ any is_wrong L
-unfolding any_fault_from any
+unfolding any_fault_from
 timed [] = refl
 timed (Epoch t ∷ L) = timed L
 timed (Located p ∷ L) = timed L
@@ -20,7 +20,7 @@ timed (Wrong ∷ L) = refl
 timed (PassedOver ∷ L) = timed L
 
 pub faults : (L : List Line) → any_fault_from false L ≡ faulty L
-unfolding any_fault_from any untimed
+unfolding any_fault_from untimed
 faults [] = refl
 faults (Epoch t ∷ L) = timed L ∙ sym (or-false (any is_wrong L))
 faults (Located p ∷ L) = sym (or-true (any is_wrong L))

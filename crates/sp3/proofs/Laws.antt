@@ -19,11 +19,10 @@ use Rattle.units.specs.declared.Position.{Position}
 use Rattle.checks.specs.Checks.{any}
 use Rattle.checks.specs.Entries.{first_failing}
 use Rattle.decimal.specs.declared.reading.Number.{Number}
-use Rattle.decimal.specs.declared.reading.Field.{Field}
-use Rattle.decimal.specs.declared.reading.Field.TheVariants.{Holds, NoNumber}
+use Rattle.std.proofs.Common.{Option, None, Some, Result, Ok, Err}
 use Rattle.calendar.specs.declared.gregorian.Calendar.{Calendar}
-use Rattle.calendar.specs.declared.instants.InstantAnswer.{InstantAnswer}
-use Rattle.calendar.specs.declared.instants.InstantAnswer.TheVariants.{At, Unreal, Beyond}
+use Rattle.calendar.specs.declared.instants.InstantError.{InstantError}
+use Rattle.units.specs.declared.Nanoseconds.{Nanoseconds}
 use Rattle.calendar.specs.Gregorian.{real}
 use Rattle.calendar.specs.Instants.{instant_of}
 use Rattle.sp3.specs.declared.line.Line.{Line}
@@ -45,11 +44,11 @@ use Rattle.sp3.proofs.Values.{coordinate_small, metres_zero, metres_other, metre
 abbrev position : Kept → Position
 position k = k.position
 
-of_fields : (f g h : Field) (t : ℤ) → map position (kept_of (position_by f g h) t) ≡ positions_by f g h
-of_fields NoNumber g h t = refl
-of_fields (Holds nx) NoNumber h t = refl
-of_fields (Holds nx) (Holds ny) NoNumber t = refl
-of_fields (Holds nx) (Holds ny) (Holds nz) t = go (absent nx ny nz)
+of_fields : (f g h : Option Number) (t : ℤ) → map position (kept_of (position_by f g h) t) ≡ positions_by f g h
+of_fields None g h t = refl
+of_fields (Some nx) None h t = refl
+of_fields (Some nx) (Some ny) None t = refl
+of_fields (Some nx) (Some ny) (Some nz) t = go (absent nx ny nz)
   where
     p : Position
     p = record { x = metres_of nx; y = metres_of ny; z = metres_of nz }
@@ -59,31 +58,30 @@ of_fields (Holds nx) (Holds ny) (Holds nz) t = go (absent nx ny nz)
     go false = refl
 
 -- an epoch line has none
-abbrev None : ℤ → Line → Type 0
-None t l = kept_of l t ≡ []
+abbrev NoRecord : ℤ → Line → Type 0
+NoRecord t l = kept_of l t ≡ []
 
-of_instant : (i : InstantAnswer) (t : ℤ) → None t (epoch_at i)
-of_instant (At u) t = refl
-of_instant Unreal t = refl
-of_instant Beyond t = refl
+of_instant : (i : Result Nanoseconds InstantError) (t : ℤ) → NoRecord t (epoch_at i)
+of_instant (Ok u) t = refl
+of_instant (Err e) t = refl
 
-of_real : (c : Calendar) (t : ℤ) → None t (epoch_without_instant c)
+of_real : (c : Calendar) (t : ℤ) → NoRecord t (epoch_without_instant c)
 of_real c t = go (real c)
   where
-    go : (b : Bool) → None t (cond b (Epoch (record { 0 = pos 0 })) Wrong)
+    go : (b : Bool) → NoRecord t (cond b (Epoch (record { 0 = pos 0 })) Wrong)
     go true = refl
     go false = refl
 
-of_calendar : (sys : TimeSystem) (c : Calendar) (t : ℤ) → None t (epoch_under sys c)
+of_calendar : (sys : TimeSystem) (c : Calendar) (t : ℤ) → NoRecord t (epoch_under sys c)
 of_calendar (Less leaps) c t = of_instant (instant_of c leaps.0) t
 of_calendar Other c t = of_real c t
 of_calendar Missing c t = of_real c t
 
-of_number : (f : Field) (g : Number → Line) (t : ℤ) → ((n : Number) → None t (g n)) → None t (numbered f g)
-of_number (Holds n) g t h = h n
-of_number NoNumber g t h = refl
+of_number : (f : Option Number) (g : Number → Line) (t : ℤ) → ((n : Number) → NoRecord t (g n)) → NoRecord t (numbered f g)
+of_number (Some n) g t h = h n
+of_number None g t h = refl
 
-of_epoch : (sys : TimeSystem) (l : List ℕ) (t : ℤ) → None t (epoch_in sys l)
+of_epoch : (sys : TimeSystem) (l : List ℕ) (t : ℤ) → NoRecord t (epoch_in sys l)
 unfolding epoch_in
 of_epoch sys l t =
     of_number (year_in l) _ t (λ a. of_number (month_in l) _ t (λ b. of_number (day_in l) _ t (λ c. of_number (hour_in l) _ t (λ d. of_number (minute_in l) _ t (λ e. of_number (second_in l) _ t (λ f.
@@ -145,7 +143,7 @@ unfolding kept
 kept_here A B p t = kept_append A (Located p ∷ B) t
 
 pub last_epoch : (A B : List Line) (t u : ℤ) → any is_epoch B ≡ false → last_instant t (A ++ Epoch (record { 0 = u }) ∷ B) ≡ u
-unfolding last_instant any
+unfolding last_instant
 last_epoch [] B t u h = none B u h
   where
     none : (B : List Line) (u : ℤ) → any is_epoch B ≡ false → last_instant u B ≡ u
@@ -159,7 +157,7 @@ last_epoch (l ∷ A) B t u h = last_epoch A B (instant_after l t) u h
 
 -- where nothing is faulty, the instant that is begun with is never that of a record
 start_unseen : (S : List Line) (t u : ℤ) → faulty S ≡ false → kept t S ≡ kept u S
-unfolding any untimed kept
+unfolding untimed kept
 start_unseen [] t u h = refl
 start_unseen (Epoch v ∷ S) t u h = refl
 start_unseen (Located p ∷ S) t u h = absurd (true≢false (sym (or-true (any is_wrong S)) ∙ h))
@@ -224,11 +222,11 @@ refused-positions bs sat leaps is ps n e = ap (λ (m : ℕ). area m (positions_o
 valued : (n : Number) → n.digits < coordinate_end → Valued n
 valued n h = record { small = h; zero = metres_zero n; rounded = metres_other n; nearest = metres_nearest n h }
 
-pub x_value : (l : List ℕ) (n : Number) → x_in l ≡ Holds n → Valued n
+pub x_value : (l : List ℕ) (n : Number) → x_in l ≡ Some n → Valued n
 x_value l n e = valued n (coordinate_small 5 12 18 l n (omega arith) (omega arith) refl e)
 
-pub y_value : (l : List ℕ) (n : Number) → y_in l ≡ Holds n → Valued n
+pub y_value : (l : List ℕ) (n : Number) → y_in l ≡ Some n → Valued n
 y_value l n e = valued n (coordinate_small 19 26 32 l n (omega arith) (omega arith) refl e)
 
-pub z_value : (l : List ℕ) (n : Number) → z_in l ≡ Holds n → Valued n
+pub z_value : (l : List ℕ) (n : Number) → z_in l ≡ Some n → Valued n
 z_value l n e = valued n (coordinate_small 33 40 46 l n (omega arith) (omega arith) refl e)

@@ -2,11 +2,12 @@
 use mathlib.Core.Path.{◌≡◌, refl, sym, ap, ◌∙◌}
 use mathlib.Core.Bool.{Bool, true, false, cond, ◌&&◌}
 use mathlib.Core.List.{List, [], ◌∷◌}
-use Prim.Native.Nat.{ℕ, ◌-◌, ◌≤◌, ◌<◌}
+use Prim.Native.Nat.{ℕ, ◌+◌, ◌-◌, ◌≤◌, ◌<◌}
 use native.Mathlib.Omega.{arith}
 use lib.Dec.{eqb, ltb}
-use lib.ListN.{length, get_or, drop, length-drop}
+use lib.ListN.{length, get_or, take, drop, length-drop}
 use lib.Seq.{take_all}
+use Rattle.std.specs.Cmp.Lexicographic.{pointwise}
 use borrow.Author.Tests.{eq-eqb, ne_eqb, lt-ltb, le-ltb}
 use Rattle.units.specs.declared.LeapSeconds.{LeapSeconds}
 use Rattle.sp3.specs.declared.line.Line.TheVariants.{PassedOver}
@@ -16,10 +17,10 @@ use Rattle.common.specs.Text.{text}
 use Rattle.sp3.specs.Lines.{begins}
 use Rattle.sp3.specs.Columns.{epoch_in, position_in, line_of}
 use Rattle.sp3.specs.Header.{no_leaps, system_in}
-use Rattle.sp3.proofs.Cursor.{part}
+use Rattle.sp3.proofs.Cursor.{begins_is}
 
 -- from column k + 1 to the end
-pub tail : (k : ℕ) (l : List ℕ) → part k (length l) l ≡ drop k l
+pub tail : (k : ℕ) (l : List ℕ) → take (length l - k) (drop k l) ≡ drop k l
 tail k l = take_all (length l - k) (drop k l) (omega (arith, length-drop k l))
 
 module _ (sys : TimeSystem) (sat : List ℕ) where
@@ -60,3 +61,13 @@ module _ (leaps : LeapSeconds) (l : List ℕ) where
 
   pub by_system : (u v : Bool) → 12 ≤ length l → begins (text "UTC") (drop 9 l) ≡ u → begins (text "GPS") (drop 9 l) ≡ v → system_in leaps l ≡ cond u (Less no_leaps) (cond v (Less leaps) Other)
   by_system u v h e f = by_tests false u v (le-ltb (length l) 12 h) e f
+
+-- the three columns of the time system begin with three bytes where the line does from column 10 on
+pub columns_begin : (p l t : List ℕ) {b y : Bool} → length p ≡ 3 → t ≡ take 3 (drop 9 l) → length t + 9 ≡ 12 → b ≡ pointwise eqb p (take (length p) t) → b ≡ y
+    → begins p (drop 9 l) ≡ y
+columns_begin p l t e f g h k =
+    sym (begins_is p (drop 9 l))
+    ∙ ap (λ (n : ℕ). pointwise eqb p (take n (drop 9 l))) e
+    ∙ ap (pointwise eqb p) (sym f ∙ sym (take_all (length p) t (omega arith)))
+    ∙ sym h
+    ∙ k

@@ -16,7 +16,7 @@ use lib.Ieee.Back.{round_whole}
 use lib.Ieee.Exact.{HasValue}
 use lib.Ieee.Fits.{down_pos}
 use lib.Ieee.Scale.{round_same}
-use borrow.Author.Tests.{le-leb, lt-leb, eq-eqb, ne_eqb, leb-true, eqb-true, eqb-false}
+use borrow.Author.Tests.{le-leb, eq-eqb, ne_eqb, leb-true, eqb-true, eqb-false}
 use Rattle.common.specs.Numbers.{nought, thousand}
 use Rattle.common.specs.Rounded.{◌⊘◌}
 use Rattle.float.specs.Conversions.{nearest_of}
@@ -24,36 +24,26 @@ use Rattle.float.specs.Nearness.{IsNearest}
 use Rattle.float.proofs.Integers.{neg_round}
 use Rattle.float.proofs.NearestFraction.{round-nearest}
 use Rattle.decimal.specs.declared.reading.Number.{Number}
-use Rattle.decimal.specs.declared.reading.Field.{Field}
-use Rattle.decimal.specs.declared.reading.Field.TheVariants.{Holds, NoNumber}
+use Rattle.std.proofs.Common.{Option, None, Some}
 use Rattle.decimal.specs.Reading.{whole_of, decimal_of}
 use Rattle.decimal.proofs.Bounds.{whole-small, decimal_small}
 use Rattle.sp3.specs.Columns.{columns, whole, pointed, coordinate_end, metres_of}
 
 -- ---- columns
-module _ (first last : ℕ) (read : List ℕ → Field) (l : List ℕ) where
+module _ (first last : ℕ) (read : List ℕ → Option Number) (l : List ℕ) where
   here : last ≤ length l → read (take (last + 1 - first) (drop (first - 1) l)) ≡ columns first last read l
-  here h = sym (ap (λ (b : Bool). cond b (read (take (last + 1 - first) (drop (first - 1) l))) NoNumber) (le-leb last (length l) h))
-
-  pub not_here : length l < last → NoNumber ≡ columns first last read l
-  not_here h = sym (ap (λ (b : Bool). cond b (read (take (last + 1 - first) (drop (first - 1) l))) NoNumber) (lt-leb last (length l) h))
-
--- the same from the place of the first column on
-pub read_here : (first last : ℕ) (read : List ℕ → Field) (l : List ℕ) → 1 ≤ first → first ≤ last → last ≤ length l → read (take (last - (first - 1)) (drop (first - 1) l)) ≡ columns first last read l
-read_here first last read l a b h =
-    let q : last - (first - 1) ≡ last + 1 - first = omega arith in
-    ap (λ (n : ℕ). read (take n (drop (first - 1) l))) q ∙ here first last read l h
+  here h = sym (ap (λ (b : Bool). cond b (read (take (last + 1 - first) (drop (first - 1) l))) None) (le-leb last (length l) h))
 
 -- a field that holds a number has its columns
-held : (first last : ℕ) (read : List ℕ → Field) (l : List ℕ) (n : Number) → columns first last read l ≡ Holds n
-    → (last ≤ length l) × (read (take (last + 1 - first) (drop (first - 1) l)) ≡ Holds n)
+held : (first last : ℕ) (read : List ℕ → Option Number) (l : List ℕ) (n : Number) → columns first last read l ≡ Some n
+    → (last ≤ length l) × (read (take (last + 1 - first) (drop (first - 1) l)) ≡ Some n)
 held first last read l n e = go (leb last (length l)) refl
   where
-    go : (b : Bool) → leb last (length l) ≡ b → (last ≤ length l) × (read (take (last + 1 - first) (drop (first - 1) l)) ≡ Holds n)
+    go : (b : Bool) → leb last (length l) ≡ b → (last ≤ length l) × (read (take (last + 1 - first) (drop (first - 1) l)) ≡ Some n)
     go true f = let h = leb-true last (length l) f in (h, here first last read l h ∙ e)
-    go false f = absurd (never (sym (ap (λ (b : Bool). cond b (read (take (last + 1 - first) (drop (first - 1) l))) NoNumber) f) ∙ e))
+    go false f = absurd (never (sym (ap (λ (b : Bool). cond b (read (take (last + 1 - first) (drop (first - 1) l))) None) f) ∙ e))
       where
-        never : NoNumber ≡ Holds n → ⊥
+        never : None ≡ Some n → ⊥
         never q = let z : ◌≡◌ {A = ℕ} 0 1 = cc in omega arith
 
 -- how many bytes they are
@@ -63,21 +53,21 @@ width first last w l a e h =
     length-take-le (last + 1 - first) (drop (first - 1) l) (omega (arith, length-drop (first - 1) l)) ∙ q
 
 -- a whole number of w columns
-pub field_small : (first last w : ℕ) (l : List ℕ) (n : Number) → 1 ≤ first → last + 1 ≡ first + w → whole first last l ≡ Holds n → n.digits < 10 ^ w
+pub field_small : (first last w : ℕ) (l : List ℕ) (n : Number) → 1 ≤ first → last + 1 ≡ first + w → whole first last l ≡ Some n → n.digits < 10 ^ w
 field_small first last w l n a e f =
     let t = take (last + 1 - first) (drop (first - 1) l) in
     let k = held first last (whole_of false) l n f in
     subst (λ (m : ℕ). n.digits < 10 ^ m) (width first last w l a e k.0) (whole-small t false n k.1)
 
 -- a number with its point in one of w + 1 columns
-pub pointed-small : (signed : Bool) (first point last w : ℕ) (l : List ℕ) (n : Number) → 1 ≤ first → point ≤ last → last ≡ first + w → pointed signed first point last l ≡ Holds n → n.digits < 10 ^ w
+pub pointed-small : (signed : Bool) (first point last w : ℕ) (l : List ℕ) (n : Number) → 1 ≤ first → point ≤ last → last ≡ first + w → pointed signed first point last l ≡ Some n → n.digits < 10 ^ w
 pointed-small signed first point last w l n a b e f =
     let t = take (last + 1 - first) (drop (first - 1) l) in
     let k = held first last (decimal_of signed (point - first)) l n f in
     let m : length t ≡ suc w = width first last (suc w) l a (omega arith) k.0 in
     decimal_small t signed (point - first) w n (omega arith) m k.1
 
-pub coordinate_small : (first point last : ℕ) (l : List ℕ) (n : Number) → 1 ≤ first → point ≤ last → last ≡ first + 13 → pointed true first point last l ≡ Holds n → n.digits < coordinate_end
+pub coordinate_small : (first point last : ℕ) (l : List ℕ) (n : Number) → 1 ≤ first → point ≤ last → last ≡ first + 13 → pointed true first point last l ≡ Some n → n.digits < coordinate_end
 coordinate_small first point last l n a b e f = pointed-small true first point last 13 l n a b e f
 
 -- ---- metres

@@ -3,52 +3,74 @@
 use mathlib.Core.Path.{◌≡◌, refl, sym, ap, ◌∙◌}
 use mathlib.Core.Bool.{Bool, true, false, cond}
 use mathlib.Core.List.{List, [], ◌∷◌, ◌++◌, map, map-append}
-use Prim.Native.Nat.{ℕ, ◌+◌, ◌*◌, ◌≤◌, ◌<◌}
+use Prim.Native.Nat.{ℕ, suc, ◌+◌, ◌*◌, ◌≤◌}
 use native.Mathlib.Omega.{arith}
 use lib.IntN.{ℤ, pos}
-use lib.ListN.{length, drop, length-append, length-map}
+use lib.ListN.{length, length-append, length-map}
 use lib.Ieee.{Float}
 use Rattle.sp3.specs.declared.line.Line.{Line}
 use Rattle.sp3.specs.declared.line.Line.TheVariants.{Epoch, Located, Absent, Wrong, PassedOver}
 use Rattle.sp3.specs.declared.header.TimeSystem.{TimeSystem}
-use Rattle.sp3.specs.declared.records.Looked.TheVariants.{Found, Undescribed}
+use Rattle.std.proofs.Common.{None, Some}
 use Rattle.common.specs.Text.{text}
 use Rattle.sp3.specs.Lines.{lines, begins}
 use Rattle.sp3.specs.Columns.{line_of}
 use Rattle.sp3.specs.Records.{Kept, body, faulty, instant_after, kept_of, kept, instants_of, positions_of}
 use Rattle.common.specs.Outcome.{written}
-use Rattle.sp3.specs.Walks.{ending, put_at, begun, fault_at, any_fault_from, said_from, looked_at}
+use Rattle.sp3.specs.Walks.{put_at, begun, fault_at, any_fault_from, looked_at}
 use Rattle.sp3.proofs.Faults.{faults}
-use Rattle.sp3.proofs.Cursor.{part, line_here, lines_none}
+use Rattle.sp3.proofs.Cursor.{lines_few}
 use Rattle.sp3.proofs.Areas.{put-put, put_front, put_none, length-put}
 
--- ---- what the lines from a place on say
-module _ (sys : TimeSystem) (sat bs : List ℕ) (from : ℕ) where
-  pub said_none : length bs ≤ from → said_from sys sat bs from ≡ []
+-- ---- what some lines say, up to one that begins EOF
+abbrev pub saying : TimeSystem → List ℕ → List (List ℕ) → List Line
+saying sys sat ls = map (line_of sys sat) (body ls)
+
+module _ (sys : TimeSystem) (sat : List ℕ) where
+  pub said_none : (ls : List (List ℕ)) → ls ≡ [] → saying sys sat ls ≡ []
   unfolding body
-  said_none h = ap (λ (ls : List (List ℕ)). map (line_of sys sat) (body ls)) (lines_none bs from h)
+  said_none ls e = ap (saying sys sat) e
 
-  by_eof : (to : ℕ) (b : Bool) → from < length bs → to ≡ from + ending (drop from bs) → begins (text "EOF") (part from to bs) ≡ b
-      → said_from sys sat bs from ≡ map (line_of sys sat) (cond b [] (part from to bs ∷ body (lines (drop (to + 1) bs))))
-  unfolding body
-  by_eof to b h e f =
-      ap (λ (ls : List (List ℕ)). map (line_of sys sat) (body ls)) (line_here bs from to h e)
-      ∙ ap (λ (y : Bool). map (line_of sys sat) (cond y [] (part from to bs ∷ body (lines (drop (to + 1) bs))))) f
+  module _ (l : List ℕ) (ls ms : List (List ℕ)) (e : ls ≡ l ∷ ms) where
+    by_eof : (b : Bool) → begins (text "EOF") l ≡ b → saying sys sat ls ≡ map (line_of sys sat) (cond b [] (l ∷ body ms))
+    unfolding body
+    by_eof b f = ap (saying sys sat) e ∙ ap (λ (y : Bool). map (line_of sys sat) (cond y [] (l ∷ body ms))) f
 
-  pub said_eof : (to : ℕ) → from < length bs → to ≡ from + ending (drop from bs) → begins (text "EOF") (part from to bs) ≡ true → said_from sys sat bs from ≡ []
-  said_eof to h e f = by_eof to true h e f
+    pub said_eof : begins (text "EOF") l ≡ true → saying sys sat ls ≡ []
+    said_eof f = by_eof true f
 
-  said_more : (to : ℕ) → from < length bs → to ≡ from + ending (drop from bs) → begins (text "EOF") (part from to bs) ≡ false
-      → said_from sys sat bs from ≡ line_of sys sat (part from to bs) ∷ said_from sys sat bs (to + 1)
-  said_more to h e f = by_eof to false h e f
+    -- the line that was looked at stands first of those that are left
+    pub said_next : (k : Line) → begins (text "EOF") l ≡ false → k ≡ line_of sys sat l → saying sys sat ls ≡ k ∷ saying sys sat ms
+    said_next k f g = by_eof false f ∙ ap (λ (m : Line). m ∷ saying sys sat ms) (sym g)
 
-  -- the line that was looked at stands first of those that are left
-  pub said_next : (to : ℕ) (b : Bool) (l : Line) → from < length bs → to ≡ from + ending (drop from bs) → b ≡ begins (text "EOF") (part from to bs) → b ≡ false
-      → l ≡ line_of sys sat (part from to bs) → said_from sys sat bs from ≡ l ∷ said_from sys sat bs (to + 1)
-  said_next to b l h e f g k = said_more to h e (sym f ∙ g) ∙ ap (λ (m : Line). m ∷ said_from sys sat bs (to + 1)) (sym k)
+-- no more records than bytes
+few : (L : List Line) (t : ℤ) → length (kept t L) ≤ length L
+unfolding kept
+few [] t = omega arith
+few (l ∷ L) t = omega (arith, length-append (kept_of l t) (kept (instant_after l t) L), few L (instant_after l t), one l t)
+  where
+    one : (l : Line) (t : ℤ) → length (kept_of l t) ≤ 1
+    one (Epoch v) t = omega arith
+    one (Located p) t = omega arith
+    one Absent t = omega arith
+    one Wrong t = omega arith
+    one PassedOver t = omega arith
+
+body_few : (ls : List (List ℕ)) → length (body ls) ≤ length ls
+unfolding body
+body_few [] = omega arith
+body_few (l ∷ ls) = go (begins (text "EOF") l) (body_few ls)
+  where
+    go : (y : Bool) → length (body ls) ≤ length ls → length (cond y [] (l ∷ body ls)) ≤ suc (length ls)
+    go true h = omega arith
+    go false h = omega arith
+
+pub kept_few : (sys : TimeSystem) (sat bs : List ℕ) → length (kept (pos 0) (saying sys sat (lines bs))) ≤ length bs
+kept_few sys sat bs =
+    omega (arith, few (saying sys sat (lines bs)) (pos 0), length-map (body (lines bs)) (line_of sys sat), body_few (lines bs), lines_few bs)
 
 -- ---- counting: how many are kept does not depend on the instants
-one-count : (l : Line) (t u : ℤ) → length (kept_of l t) ≡ length (kept_of l u)
+pub one-count : (l : Line) (t u : ℤ) → length (kept_of l t) ≡ length (kept_of l u)
 one-count (Epoch v) t u = refl
 one-count (Located p) t u = refl
 one-count Absent t u = refl
@@ -76,23 +98,23 @@ module _ (S : List Line) where
   look_none = record { as_faulty = faults S; as_many = omega arith }
 
   -- what the look finds, by whether something is faulty
-  by_faulty : (b : Bool) → faulty S ≡ b → looked_at S ≡ cond b Undescribed (Found (length (kept (pos 0) S)))
-  by_faulty b e = ap (λ (y : Bool). cond y Undescribed (Found (length (kept (pos 0) S)))) e
+  by_faulty : (b : Bool) → faulty S ≡ b → looked_at S ≡ cond b None (Some (length (kept (pos 0) S)))
+  by_faulty b e = ap (λ (y : Bool). cond y None (Some (length (kept (pos 0) S)))) e
 
   module _ (L : List Line) (started : Bool) (count : ℕ) (k : Looking S L started count) where
-    pub look_end : L ≡ [] → Found count ≡ looked_at S
+    pub look_end : L ≡ [] → Some count ≡ looked_at S
     unfolding any_fault_from kept
     look_end e =
         let n : length (kept (pos 0) L) ≡ 0 = ap (λ (M : List Line). length (kept (pos 0) M)) e in
         let m : count ≡ length (kept (pos 0) S) = omega (arith, k.as_many) in
-        ap Found m ∙ sym (by_faulty false (sym k.as_faulty ∙ ap (any_fault_from started) e))
+        ap Some m ∙ sym (by_faulty false (sym k.as_faulty ∙ ap (any_fault_from started) e))
 
     -- by the first line that is left
     by_first : (l : Line) (M : List Line) (b : Bool) → L ≡ l ∷ M → fault_at l started ≡ b → faulty S ≡ cond b true (any_fault_from (begun l started) M)
     unfolding any_fault_from
     by_first l M b e f = sym k.as_faulty ∙ ap (any_fault_from started) e ∙ ap (λ (y : Bool). cond y true (any_fault_from (begun l started) M)) f
 
-    pub look_wrong : (l : Line) (M : List Line) → L ≡ l ∷ M → fault_at l started ≡ true → Undescribed ≡ looked_at S
+    pub look_wrong : (l : Line) (M : List Line) → L ≡ l ∷ M → fault_at l started ≡ true → None ≡ looked_at S
     look_wrong l M e f = sym (by_faulty true (by_first l M true e f))
 
     pub look_more : (l : Line) (M : List Line) → L ≡ l ∷ M → fault_at l started ≡ false → Looking S M (begun l started) (count + length (kept_of l (pos 0)))

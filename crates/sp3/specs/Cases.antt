@@ -5,7 +5,6 @@ use Rattle.std.specs.Float.{fin}
 use Rattle.std.specs.Float.Ieee.{span, climb, size, odd, units, round}
 use Rattle.common.specs.Numbers.{nought}
 use Rattle.units.specs.declared.LeapSeconds.{LeapSeconds}
-use Rattle.checks.specs.Checks.{any}
 use Rattle.checks.specs.Entries.{first_failing}
 use Rattle.decimal.specs.Reading.{after_blanks, digits_behind, some_digits, signed_digits, with_decimals}
 use Rattle.calendar.specs.Gregorian.{leap, sum, days_of_years}
@@ -94,7 +93,7 @@ refused_at ss satellite n = sp3_refusal (file ss) (text satellite) leaps (replic
 pub refusals : (refused_at in_gps "G05" 6 ≡ 0) × (refused_at in_gps "G05" 5 ≡ 13) × (refused_at in_utc "G05" 6 ≡ 0) × (refused_at in_utc "G06" 6 ≡ 13)
     × (refused_at in_bdt "G05" 6 ≡ 12) × (refused_at in_none "G05" 6 ≡ 11) × (refused_at early "G05" 6 ≡ 11)
     × (refused_at ("#c" ∷ "##" ∷ "EOF" ∷ []) "G05" 6 ≡ 11)
-unfolding lines begins system_in headed body line_of epoch_in position_in any untimed first_failing kept
+unfolding lines begins system_in headed body line_of epoch_in position_in untimed first_failing kept
     after_blanks digits_behind some_digits signed_digits with_decimals leap sum days_of_years span climb size odd units round
 refusals = (refl, refl, refl, refl, refl, refl, refl, refl)
 

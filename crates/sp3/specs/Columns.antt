@@ -1,15 +1,14 @@
 -- What one line behind the header says: an epoch line and a P line of the satellite by their columns, which count from 1.
-use Rattle.std.specs.Prelude.{ℕ, ◌+◌, ◌-◌, ◌*◌, ◌/◌, ◌%◌, Bool, true, false, cond, ◌&&◌, List, ◌++◌, leb, eqb, pos, length, take, drop, Float}
+use Rattle.std.specs.Prelude.{ℕ, ◌+◌, ◌-◌, ◌*◌, ◌/◌, ◌%◌, Bool, true, false, cond, ◌&&◌, Option, None, Some, Result, Ok, Err, List, ◌++◌}
+use Rattle.std.specs.Prelude.{leb, eqb, pos, length, take, drop, Float}
 use Rattle.std.specs.Float.{binary64}
 use Rattle.std.specs.Float.Ieee.{round}
 use Rattle.common.specs.Numbers.{nought}
 use Rattle.decimal.specs.declared.reading.Number.{Number}
-use Rattle.decimal.specs.declared.reading.Field.{Field}
-use Rattle.decimal.specs.declared.reading.Field.TheVariants.{Holds, NoNumber}
 use Rattle.decimal.specs.Reading.{whole_of, decimal_of}
 use Rattle.calendar.specs.declared.gregorian.Calendar.{Calendar}
-use Rattle.calendar.specs.declared.instants.InstantAnswer.{InstantAnswer}
-use Rattle.calendar.specs.declared.instants.InstantAnswer.TheVariants.{At, Unreal, Beyond}
+use Rattle.calendar.specs.declared.instants.InstantError.{InstantError}
+use Rattle.units.specs.declared.Nanoseconds.{Nanoseconds}
 use Rattle.calendar.specs.Gregorian.{real}
 use Rattle.calendar.specs.Instants.{instant_of}
 use Rattle.sp3.specs.declared.line.Line.{Line}
@@ -20,60 +19,60 @@ use Rattle.common.specs.Text.{text}
 use Rattle.sp3.specs.Lines.{begins}
 
 -- what a reading makes of the columns from first to last; a line that does not have them holds no number there
-abbrev pub columns : ℕ → ℕ → (List ℕ → Field) → List ℕ → Field
-columns first last read l = cond (leb last (length l)) (read (take (last + 1 - first) (drop (first - 1) l))) NoNumber
+abbrev pub columns : ℕ → ℕ → (List ℕ → Option Number) → List ℕ → Option Number
+columns first last read l = cond (leb last (length l)) (read (take (last + 1 - first) (drop (first - 1) l))) None
 
 -- the whole number in the columns from first to last
-abbrev pub whole : ℕ → ℕ → List ℕ → Field
+abbrev pub whole : ℕ → ℕ → List ℕ → Option Number
 whole first last = columns first last (whole_of false)
 
 -- the number in the columns from first to last, with its point in a column of its own, and perhaps a minus where `signed`
-abbrev pub pointed : Bool → ℕ → ℕ → ℕ → List ℕ → Field
+abbrev pub pointed : Bool → ℕ → ℕ → ℕ → List ℕ → Option Number
 pointed signed first point last = columns first last (decimal_of signed (point - first))
 
 -- what a line says by the number that a field holds; without one it is not by the description
-abbrev pub numbered : Field → (Number → Line) → Line
-numbered (Holds n) f = f n
-numbered NoNumber f = Wrong
+abbrev pub numbered : Option Number → (Number → Line) → Line
+numbered (Some n) f = f n
+numbered None f = Wrong
 
 -- ---- the columns of an epoch line
 
 -- its year
-abbrev pub year_in : List ℕ → Field
+abbrev pub year_in : List ℕ → Option Number
 year_in = whole 4 7
 
 -- its month
-abbrev pub month_in : List ℕ → Field
+abbrev pub month_in : List ℕ → Option Number
 month_in = whole 9 10
 
 -- its day
-abbrev pub day_in : List ℕ → Field
+abbrev pub day_in : List ℕ → Option Number
 day_in = whole 12 13
 
 -- its hour
-abbrev pub hour_in : List ℕ → Field
+abbrev pub hour_in : List ℕ → Option Number
 hour_in = whole 15 16
 
 -- its minute
-abbrev pub minute_in : List ℕ → Field
+abbrev pub minute_in : List ℕ → Option Number
 minute_in = whole 18 19
 
 -- its second, with eight decimals
-abbrev pub second_in : List ℕ → Field
+abbrev pub second_in : List ℕ → Option Number
 second_in = pointed false 21 23 31
 
 -- ---- the columns of a P line, in kilometres with six decimals: "at coordinates perhaps a minus"
 
 -- its x
-abbrev pub x_in : List ℕ → Field
+abbrev pub x_in : List ℕ → Option Number
 x_in = pointed true 5 12 18
 
 -- its y
-abbrev pub y_in : List ℕ → Field
+abbrev pub y_in : List ℕ → Option Number
 y_in = pointed true 19 26 32
 
 -- its z
-abbrev pub z_in : List ℕ → Field
+abbrev pub z_in : List ℕ → Option Number
 z_in = pointed true 33 40 46
 
 -- ---- an epoch line
@@ -99,10 +98,9 @@ calendar_of year month day hour minute second = record {
 }
 
 -- "An epoch of no real date and time …, or whose instant … is beyond check 4, counts as not by the description"
-abbrev pub epoch_at : InstantAnswer → Line
-epoch_at (At t) = Epoch t
-epoch_at Unreal = Wrong
-epoch_at Beyond = Wrong
+abbrev pub epoch_at : Result Nanoseconds InstantError → Line
+epoch_at (Ok t) = Epoch t
+epoch_at (Err e) = Wrong
 
 -- no instant is "worked out" but "under these two time systems"; 0 stands for it, and refusal 12 lets no such record out
 abbrev pub epoch_without_instant : Calendar → Line
@@ -115,7 +113,7 @@ epoch_under Other c = epoch_without_instant c
 epoch_under Missing c = epoch_without_instant c
 
 -- by its six fields
-abbrev pub epoch_by : TimeSystem → Field → Field → Field → Field → Field → Field → Line
+abbrev pub epoch_by : TimeSystem → Option Number → Option Number → Option Number → Option Number → Option Number → Option Number → Line
 epoch_by system year month day hour minute second =
     numbered year (λ y. numbered month (λ m. numbered day (λ d. numbered hour (λ h. numbered minute (λ i. numbered second (λ s.
     epoch_under system (calendar_of y m d h i s)))))))
@@ -147,7 +145,7 @@ abbrev pub position_of : Number → Number → Number → Line
 position_of x y z = cond (absent x y z) Absent (Located (record { x = metres_of x; y = metres_of y; z = metres_of z }))
 
 -- by its three fields
-abbrev pub position_by : Field → Field → Field → Line
+abbrev pub position_by : Option Number → Option Number → Option Number → Line
 position_by x y z = numbered x (λ m. numbered y (λ n. numbered z (λ o. position_of m n o)))
 
 -- what a P line of the satellite says

@@ -1,14 +1,12 @@
 -- The entry: its refusals in their order, its answer, and what the two areas hold afterwards.
 use Rattle.std.specs.Prelude.{ℕ, ◌*◌, Bool, true, false, not, ◌||◌, List, [], ◌∷◌, map, eqb, ltb, ℤ, pos, length, drop, Float}
-use Rattle.common.specs.Outcome.{Outcome, outcome, refused, answered, area}
+use Rattle.common.specs.Outcome.{Outcome, outcome, area}
 use Rattle.units.specs.declared.LeapSeconds.{LeapSeconds}
 use Rattle.checks.specs.Limits.{axes}
 use Rattle.checks.specs.Entries.{check, first_failing}
 use Rattle.sp3.specs.declared.header.TimeSystem.{TimeSystem}
 use Rattle.sp3.specs.declared.header.TimeSystem.TheVariants.{Less, Other, Missing}
 use Rattle.sp3.specs.declared.line.Line.{Line}
-use Rattle.sp3.specs.declared.reader.Sp3Read.{Sp3Read}
-use Rattle.sp3.specs.declared.reader.Sp3Read.TheVariants.{Count, Refused}
 use Rattle.sp3.specs.Lines.{lines}
 use Rattle.sp3.specs.Header.{beginnings, header_lines, headed, system_of}
 use Rattle.sp3.specs.Columns.{line_of}
@@ -70,8 +68,3 @@ sp3_instants bytes satellite leaps is ps = area (sp3_refusal bytes satellite lea
 -- what the area for positions holds afterwards
 abbrev pub sp3_positions : List ℕ → List ℕ → LeapSeconds → List ℤ → List Float → List Float
 sp3_positions bytes satellite leaps is ps = area (sp3_refusal bytes satellite leaps is ps) (positions_of (records_of bytes satellite leaps)) ps
-
--- the paper's number and value of each case of the answer
-abbrev pub sp3_in : Sp3Read → Outcome ℕ
-sp3_in (Count n) = answered n
-sp3_in (Refused n) = refused n

@@ -1,5 +1,5 @@
 -- What the laws of the reader speak of: the lines joined again, which lines have a position to keep, by the columns alone, and the last epoch line.
-use Rattle.std.specs.Prelude.{ℕ, ◌<◌, ◌≡◌, Bool, cond, List, [], ◌∷◌, ◌++◌, eqb, ℤ, pos}
+use Rattle.std.specs.Prelude.{ℕ, ◌<◌, ◌≡◌, Bool, cond, Option, None, Some, List, [], ◌∷◌, ◌++◌, eqb, ℤ, pos}
 use Rattle.std.specs.Float.{binary64}
 use Rattle.std.specs.Float.Ieee.{round}
 use Rattle.common.specs.Numbers.{nought}
@@ -7,8 +7,6 @@ use Rattle.float.specs.Nearness.{IsNearest}
 use Rattle.units.specs.declared.Position.{Position}
 use Rattle.checks.specs.Checks.{any}
 use Rattle.decimal.specs.declared.reading.Number.{Number}
-use Rattle.decimal.specs.declared.reading.Field.{Field}
-use Rattle.decimal.specs.declared.reading.Field.TheVariants.{Holds, NoNumber}
 use Rattle.sp3.specs.declared.line.Line.{Line}
 use Rattle.common.specs.Text.{text}
 use Rattle.sp3.specs.Lines.{line_feed, begins}
@@ -35,11 +33,11 @@ abbrev pub has_feed : List ℕ → Bool
 has_feed l = any (λ b. eqb b line_feed) l
 
 -- the position of three coordinates that are numbers and not all zero
-abbrev pub positions_by : Field → Field → Field → List Position
-positions_by NoNumber fy fz = []
-positions_by (Holds nx) NoNumber fz = []
-positions_by (Holds nx) (Holds ny) NoNumber = []
-positions_by (Holds nx) (Holds ny) (Holds nz) = cond (absent nx ny nz) [] (record { x = metres_of nx; y = metres_of ny; z = metres_of nz } ∷ [])
+abbrev pub positions_by : Option Number → Option Number → Option Number → List Position
+positions_by None fy fz = []
+positions_by (Some nx) None fz = []
+positions_by (Some nx) (Some ny) None = []
+positions_by (Some nx) (Some ny) (Some nz) = cond (absent nx ny nz) [] (record { x = metres_of nx; y = metres_of ny; z = metres_of nz } ∷ [])
 
 -- that of a P line of the satellite
 abbrev pub positions_in : List ℕ → List ℕ → List Position

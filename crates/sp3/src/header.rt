@@ -1,9 +1,9 @@
 // The header's 22 lines and its time system.
-ghost use Rattle.std.specs.Prelude.{◌≡◌};
+ghost use Rattle.std.specs.Prelude.{◌≡◌, true, false, drop, MatchOption};
 ghost use Rattle.sp3.specs.Lines.{lines};
-ghost use Rattle.sp3.specs.Header.{beginnings, headed, system_in, system_of};
+ghost use Rattle.sp3.specs.Header.{beginnings, header_lines, headed, system_in, system_of};
 
-use crate::text::{after_lines, begins, line_end};
+use crate::lines::Lines;
 use units::LeapSeconds;
 
 // A file's time system: its instants less so many leap seconds, three other bytes, or not three bytes.
@@ -14,11 +14,11 @@ pub(crate) enum TimeSystem {
     Missing,
 }
 
-// How many lines the header has.
-pub(crate) const HEADER_LINES: usize = 22;
-
-// The first two bytes of each.
-const BEGINNINGS: [u8; 44] = *b"#c##+ + + + + ++++++++++%c%c%f%f%i%i/*/*/*/*";
+// The first two bytes of each of the header's lines.
+const BEGINNINGS: [[u8; 2]; 22] = [
+    *b"#c", *b"##", *b"+ ", *b"+ ", *b"+ ", *b"+ ", *b"+ ", *b"++", *b"++", *b"++", *b"++", *b"++",
+    *b"%c", *b"%c", *b"%f", *b"%f", *b"%i", *b"%i", *b"/*", *b"/*", *b"/*", *b"/*",
+];
 
 // The lines ahead of the one that has the time system.
 const LINES_BEFORE_SYSTEM: usize = 12;
@@ -29,53 +29,38 @@ const COLUMNS_BEFORE_SYSTEM: usize = 9;
 // Its last column.
 const SYSTEM_LAST: usize = 12;
 
-// Whether the first 22 lines begin as they must.
-pub(crate) fn is_headed(bytes: &[u8]) -> bool
-    ensures { result ≡ headed beginnings (lines bytes.now) }
+// What stands behind the header, if the header's lines begin as they must.
+pub(crate) fn body_of(bytes: &[u8]) -> Option<&[u8]>
+    ensures { MatchOption result (headed beginnings (lines bytes.now) ≡ false)
+        (λ body. (headed beginnings (lines bytes.now) ≡ true) × (lines body.now ≡ drop header_lines (lines bytes.now))) }
 {
-    let table = BEGINNINGS;
-    let mut from: usize = 0;
-    let mut k: usize = 0;
-    while k < HEADER_LINES {
-        if from >= bytes.len() {
-            return false;
+    let mut lines = Lines(bytes);
+    for beginning in &BEGINNINGS {
+        if !lines.next()?.starts_with(beginning) {
+            return None;
         }
-        let to = line_end(bytes, from);
-        let a = 2 * k;
-        let e = a + 2;
-        if !begins(&bytes[from..to], &table[a..e]) {
-            return false;
-        }
-        from = to + 1;
-        k += 1;
     }
-    true
+    Some(lines.0)
 }
 
 // The time system in the columns 10 to 12 of a line.
 fn system_in(line: &[u8], leap_seconds: LeapSeconds) -> TimeSystem
     ensures { result ≡ system_in leap_seconds line.now }
 {
-    if line.len() < SYSTEM_LAST {
-        return TimeSystem::Missing;
+    match line.get(COLUMNS_BEFORE_SYSTEM..SYSTEM_LAST) {
+        None => TimeSystem::Missing,
+        Some(columns) if columns.starts_with(b"UTC") => TimeSystem::Less(LeapSeconds(0)),
+        Some(columns) if columns.starts_with(b"GPS") => TimeSystem::Less(leap_seconds),
+        Some(_) => TimeSystem::Other,
     }
-    if begins(&line[COLUMNS_BEFORE_SYSTEM..], b"UTC") {
-        return TimeSystem::Less(LeapSeconds(0));
-    }
-    if begins(&line[COLUMNS_BEFORE_SYSTEM..], b"GPS") {
-        return TimeSystem::Less(leap_seconds);
-    }
-    TimeSystem::Other
 }
 
 // The time system of a file.
 pub(crate) fn system_of(bytes: &[u8], leap_seconds: LeapSeconds) -> TimeSystem
     ensures { result ≡ system_of leap_seconds (lines bytes.now) }
 {
-    let from = after_lines(bytes, LINES_BEFORE_SYSTEM);
-    if from >= bytes.len() {
-        return TimeSystem::Missing;
+    match Lines(bytes).nth(LINES_BEFORE_SYSTEM) {
+        Some(line) => system_in(line, leap_seconds),
+        None => TimeSystem::Missing,
     }
-    let to = line_end(bytes, from);
-    system_in(&bytes[from..to], leap_seconds)
 }

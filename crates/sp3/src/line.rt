@@ -1,12 +1,14 @@
 // What one line behind the header says.
-ghost use Rattle.std.specs.Prelude.{◌≡◌, ◌≤◌, ◌<◌};
-ghost use Rattle.sp3.specs.Columns.{whole, pointed, epoch_at, epoch_without_instant, epoch_under, epoch_in, line_of};
+ghost use Rattle.std.specs.Prelude.{◌≡◌, ◌≤◌, ◌<◌, unwrap_or, pos, length};
+ghost use Rattle.sp3.specs.declared.line.Line.TheVariants.{Wrong};
+ghost use Rattle.sp3.specs.Columns.{whole, pointed, epoch_at, epoch_without_instant, epoch_under, epoch_in};
 ghost use Rattle.sp3.specs.Columns.{coordinate_end, metres_of, absent, position_of, position_in};
+ghost use Rattle.sp3.specs.Records.{instant_after, kept_of};
+ghost use Rattle.sp3.specs.Walks.{begun, fault_at};
 
 use crate::header::TimeSystem;
-use crate::text::begins;
-use calendar::{Calendar, InstantAnswer};
-use decimal::{Field, Number};
+use calendar::{Calendar, InstantError};
+use decimal::Number;
 use units::{Metres, Nanoseconds, Position};
 
 // An epoch by its instant, a position of the satellite, that the position is absent, something that is not by the description, or nothing that is
@@ -20,6 +22,39 @@ pub(crate) enum Line {
     PassedOver,
 }
 
+impl Line {
+    // Whether an epoch line has stood, at this line or before it.
+    pub(crate) fn is_begun(self, started: bool) -> bool
+        ensures { result ≡ begun self started }
+    {
+        matches!(self, Line::Epoch(_)) || started
+    }
+
+    // Whether it is not by the description, or is a P line of the satellite before the first epoch line.
+    pub(crate) fn is_fault(self, started: bool) -> bool
+        ensures { result ≡ fault_at self started }
+    {
+        matches!(self, Line::Wrong) || (matches!(self, Line::Located(_) | Line::Absent) && !started)
+    }
+
+    // How many records it has.
+    pub(crate) fn record_count(self) -> usize
+        ensures { result ≡ length (kept_of self (pos 0)) }
+    {
+        usize::from(matches!(self, Line::Located(_)))
+    }
+
+    // The instant of the last epoch line, where that of the lines before is t.
+    pub(crate) fn instant_after(self, t: Nanoseconds) -> Nanoseconds
+        ensures { result.0 ≡ instant_after self t.0 }
+    {
+        match self {
+            Line::Epoch(u) => u,
+            _ => t,
+        }
+    }
+}
+
 // Steps of the eighth decimal in a second.
 const STEPS_IN_SECOND: u64 = 100_000_000;
 
@@ -30,38 +65,26 @@ const NANOSECONDS_IN_STEP: u64 = 10;
 const STEPS_IN_METRE: f64 = 1000.0;
 
 // The whole number in the columns from first to last.
-fn whole_in(line: &[u8], first: usize, last: usize) -> Field
+fn whole_in(line: &[u8], first: usize, last: usize) -> Option<Number>
     requires { (1 ≤ first) × (first ≤ last) }
     ensures { result ≡ whole first last line.now }
 {
-    if line.len() < last {
-        return Field::NoNumber;
-    }
-    let from = first - 1;
-    decimal::whole_of(&line[from..last], false)
+    decimal::whole_of(line.get(first - 1..last)?, false)
 }
 
 // The number in the columns from first to last, with its point in a column of its own.
-fn pointed_in(line: &[u8], first: usize, point: usize, last: usize, signed: bool) -> Field
+fn pointed_in(line: &[u8], first: usize, point: usize, last: usize, signed: bool) -> Option<Number>
     requires { (1 ≤ first) × (first ≤ point) × (point ≤ last) }
     ensures { result ≡ pointed signed first point last line.now }
 {
-    if line.len() < last {
-        return Field::NoNumber;
-    }
-    let from = first - 1;
-    decimal::decimal_of(&line[from..last], point - first, signed)
+    decimal::decimal_of(line.get(first - 1..last)?, point - first, signed)
 }
 
 // The epoch of an instant.
-fn epoch_at(instant: InstantAnswer) -> Line
+fn epoch_at(instant: Result<Nanoseconds, InstantError>) -> Line
     ensures { result ≡ epoch_at instant }
 {
-    match instant {
-        InstantAnswer::At(t) => Line::Epoch(t),
-        InstantAnswer::Unreal => Line::Wrong,
-        InstantAnswer::Beyond => Line::Wrong,
-    }
+    instant.map_or(Line::Wrong, Line::Epoch)
 }
 
 // The epoch of a date and time of which no instant is worked out.
@@ -69,9 +92,11 @@ fn epoch_without_instant(c: Calendar) -> Line
     ensures { result ≡ epoch_without_instant c }
 {
     if calendar::is_real(c) {
-        return Line::Epoch(Nanoseconds(0));
+        // no instant is worked out here, and no record goes out with this one: the definition has 0 in its place
+        Line::Epoch(Nanoseconds(0))
+    } else {
+        Line::Wrong
     }
-    Line::Wrong
 }
 
 // The epoch of a date and time under a time system.
@@ -80,34 +105,22 @@ fn epoch_under(system: TimeSystem, c: Calendar) -> Line
 {
     match system {
         TimeSystem::Less(leap_seconds) => epoch_at(calendar::instant_of(c, leap_seconds)),
-        TimeSystem::Other => epoch_without_instant(c),
-        TimeSystem::Missing => epoch_without_instant(c),
+        TimeSystem::Other | TimeSystem::Missing => epoch_without_instant(c),
     }
 }
 
-// What an epoch line says.
-fn epoch_in(line: &[u8], system: TimeSystem) -> Line
-    ensures { result ≡ epoch_in system line.now }
+// What an epoch line says, if each of its fields is a number. The columns hold so few digits that the casts lose none.
+pub(crate) fn epoch_in(line: &[u8], system: TimeSystem) -> Option<Line>
+    ensures { unwrap_or result Wrong ≡ epoch_in system line.now }
 {
-    let Field::Holds(year) = whole_in(line, 4, 7) else {
-        return Line::Wrong;
-    };
-    let Field::Holds(month) = whole_in(line, 9, 10) else {
-        return Line::Wrong;
-    };
-    let Field::Holds(day) = whole_in(line, 12, 13) else {
-        return Line::Wrong;
-    };
-    let Field::Holds(hour) = whole_in(line, 15, 16) else {
-        return Line::Wrong;
-    };
-    let Field::Holds(minute) = whole_in(line, 18, 19) else {
-        return Line::Wrong;
-    };
-    let Field::Holds(second) = pointed_in(line, 21, 23, 31, false) else {
-        return Line::Wrong;
-    };
+    let year = whole_in(line, 4, 7)?;
+    let month = whole_in(line, 9, 10)?;
+    let day = whole_in(line, 12, 13)?;
+    let hour = whole_in(line, 15, 16)?;
+    let minute = whole_in(line, 18, 19)?;
+    let second = pointed_in(line, 21, 23, 31, false)?;
     let c = Calendar {
+        // by `as`, which is proved to lose nothing: its columns bound each number
         year: year.digits as u16,
         month: month.digits as u8,
         day: day.digits as u8,
@@ -116,7 +129,7 @@ fn epoch_in(line: &[u8], system: TimeSystem) -> Line
         second: (second.digits / STEPS_IN_SECOND) as u8,
         nanosecond: (second.digits % STEPS_IN_SECOND * NANOSECONDS_IN_STEP) as u32,
     };
-    epoch_under(system, c)
+    Some(epoch_under(system, c))
 }
 
 // A coordinate in metres, of its millionths of a kilometre: fewer than 2^53 are a double exactly, so only the division rounds.
@@ -135,13 +148,7 @@ fn metres_of(n: Number) -> Metres
 fn is_absent(x: Number, y: Number, z: Number) -> bool
     ensures { result ≡ absent x y z }
 {
-    if x.digits != 0 {
-        return false;
-    }
-    if y.digits != 0 {
-        return false;
-    }
-    z.digits == 0
+    x.digits == 0 && y.digits == 0 && z.digits == 0
 }
 
 // A position by its coordinates.
@@ -159,38 +166,12 @@ fn position_of(x: Number, y: Number, z: Number) -> Line
     })
 }
 
-// What a P line of the satellite says.
-fn position_in(line: &[u8]) -> Line
-    ensures { result ≡ position_in line.now }
+// What a P line of the satellite says, if each of its coordinates is a number.
+pub(crate) fn position_in(line: &[u8]) -> Option<Line>
+    ensures { unwrap_or result Wrong ≡ position_in line.now }
 {
-    let Field::Holds(x) = pointed_in(line, 5, 12, 18, true) else {
-        return Line::Wrong;
-    };
-    let Field::Holds(y) = pointed_in(line, 19, 26, 32, true) else {
-        return Line::Wrong;
-    };
-    let Field::Holds(z) = pointed_in(line, 33, 40, 46, true) else {
-        return Line::Wrong;
-    };
-    position_of(x, y, z)
-}
-
-// What a line says.
-pub(crate) fn line_of(line: &[u8], system: TimeSystem, satellite: &[u8]) -> Line
-    ensures { result ≡ line_of system satellite.now line.now }
-{
-    if line.len() == 0 {
-        return Line::PassedOver;
-    }
-    let first = line[0];
-    if first == b'*' {
-        return epoch_in(line, system);
-    }
-    if first != b'P' {
-        return Line::PassedOver;
-    }
-    if begins(&line[1..], satellite) {
-        return position_in(line);
-    }
-    Line::PassedOver
+    let x = pointed_in(line, 5, 12, 18, true)?;
+    let y = pointed_in(line, 19, 26, 32, true)?;
+    let z = pointed_in(line, 33, 40, 46, true)?;
+    Some(position_of(x, y, z))
 }

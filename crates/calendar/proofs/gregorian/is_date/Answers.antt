@@ -1,34 +1,41 @@
--- The tests are those of the definition, in its order: each that returns decides it, and the last decides where the others hold. Assumes nothing.
-use mathlib.Core.Path.{ap, ◌∙◌}
-use mathlib.Core.Bool.{Bool}
-use lib.Dec.{leb}
-use Rattle.calendar.specs.Gregorian.{days_of_month}
-use Rattle.calendar.proofs.Tests.{and_both, and_last}
-use borrow.Author.Tests.{lt-leb, le-leb}
+-- Year and month are tested, and of a real month the day. Assumes nothing.
+use Rattle.std.proofs.Common.{◌≡◌, ℕ, Bool, true, false, Some, sym, ◌∙◌, arith, leb, nat_cmp, is_le, ◌&&◌}
+use Rattle.std.proofs.lemmas.Bool.Decides.{nat_tests}
+use Rattle.std.specs.Range.{range_inclusive_contains, range_inclusive_start, range_inclusive_end, range_inclusive_exhausted}
+use Rattle.std.specs.declared.ops.RangeInclusive.{RangeInclusive}
+use Rattle.calendar.specs.Gregorian.{leap, days_of_month, last_year, months_in_year, real_date}
+use Rattle.calendar.specs.declared.gregorian.Calendar.{Calendar}
+use Rattle.calendar.proofs.Tests.{both}
 use Rattle.calendar.proofs.gregorian.is_date.Goals as goal
+use Rattle.calendar.proofs.gregorian.is_date.Goals.{then-contains, else-contains}
 
-pub returns-then-c-lt1 : goal.returns-then-c-lt1
-returns-then-c-lt1 c = simp (lt-leb _ _ c.if-c-lt1.true)
+le_is : (a b : ℕ) → is_le (nat_cmp a b) ≡ leb a b
+le_is a b = grind (arith, nat_tests)
 
-pub returns-then-c-gt-LAST_YEAR : goal.returns-then-c-gt-LAST_YEAR
-returns-then-c-gt-LAST_YEAR c = simp (le-leb _ _ c.if-c-lt1.false, lt-leb _ _ c.if-c-gt-LAST_YEAR.true)
+tested : (s : RangeInclusive ℕ) (a b x : ℕ) (r : Bool)
+    → r ≡ range_inclusive_contains (λ x y. Some (nat_cmp x y)) s x
+    → range_inclusive_start s ≡ a → range_inclusive_end s ≡ b → range_inclusive_exhausted s ≡ false → r ≡ leb a x && leb x b
+tested s a b x r e f g h = e ∙ simp (f, g, h, le_is)
 
-pub returns-then-c-lt1-2 : goal.returns-then-c-lt1-2
-returns-then-c-lt1-2 c =
-    simp (le-leb _ _ c.if-c-lt1.false, le-leb _ _ c.if-c-gt-LAST_YEAR.false, lt-leb _ _ c.if-c-lt1-2.true)
+dated : (c : Calendar) {r p q l : Bool} {k : ℕ}
+    → p ≡ true → p ≡ leb 1 c.year && leb c.year last_year → q ≡ true → q ≡ leb 1 c.month && leb c.month months_in_year
+    → l ≡ leap c.year → k ≡ days_of_month l c.month → r ≡ leb 1 c.day && leb c.day k → r ≡ real_date c
+dated c a b d e f g h =
+    let y = both (leb 1 c.year) (leb c.year last_year) (sym b ∙ a) in
+    let m = both (leb 1 c.month) (leb c.month months_in_year) (sym e ∙ d) in
+    h ∙ simp (y.0, y.1, m.0, m.1, g, f)
 
-pub returns-then-c-gt-MONTHS_IN_YEAR : goal.returns-then-c-gt-MONTHS_IN_YEAR
-returns-then-c-gt-MONTHS_IN_YEAR c =
-    simp (le-leb _ _ c.if-c-lt1.false, le-leb _ _ c.if-c-gt-LAST_YEAR.false, le-leb _ _ c.if-c-lt1-2.false, lt-leb _ _ c.if-c-gt-MONTHS_IN_YEAR.true)
-
-pub returns-then-c-lt1-3 : goal.returns-then-c-lt1-3
-returns-then-c-lt1-3 c =
-    simp (le-leb _ _ c.if-c-lt1.false, le-leb _ _ c.if-c-gt-LAST_YEAR.false, le-leb _ _ c.if-c-lt1-2.false, le-leb _ _ c.if-c-gt-MONTHS_IN_YEAR.false, lt-leb _ _ c.if-c-lt1-3.true)
-
-pub returns : goal.returns
-returns c =
+pub returns-then-contains-2 : goal.returns-then-contains-2
+returns-then-contains-2 c =
     let d = c.args.c in
-    let t2 = and_both _ _ (le-leb _ _ c.if-c-lt1.false) (le-leb _ _ c.if-c-gt-LAST_YEAR.false) in
-    let t4 = and_both _ _ (and_both _ _ t2 (le-leb _ _ c.if-c-lt1-2.false)) (le-leb _ _ c.if-c-gt-MONTHS_IN_YEAR.false) in
-    ap (leb d.day) (c.month_length.ensures ∙ ap (λ (l : Bool). days_of_month l d.month) c.is_leap.ensures)
-    ∙ and_last _ _ (and_both _ _ t4 (le-leb _ _ c.if-c-lt1-3.false))
+    let n = c.new.ensures in
+    let k = c.new-then-contains-2.ensures in
+    let day = tested c.new-then-contains-2.result 1 c.month_length.result d.day _ c.contains-then-contains-2.ensures.value k.start k.end k.exhausted in
+    elim c.if-contains.branch [
+      | then-contains w ↦
+          let m = w.new-then-contains.ensures in
+          let year = tested c.new.result 1 last_year d.year _ c.contains.ensures.value n.start n.end n.exhausted in
+          let month = tested w.new-then-contains.result 1 months_in_year d.month _ w.contains-then-contains.ensures.value m.start m.end m.exhausted in
+          dated d w.if-contains.true year (sym w.value-is ∙ c.if-contains-2.true) month c.is_leap.ensures c.month_length.ensures day
+      | else-contains w ↦ cc
+    ]

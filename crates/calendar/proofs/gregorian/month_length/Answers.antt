@@ -9,6 +9,7 @@ use lib.Dec.{T, eqb}
 use mir.Val.{has_key}
 use types.Run.{OneOf, hit}
 use native.Mathlib.Omega.{arith}
+use Rattle.std.proofs.Common.{rules}
 use Rattle.calendar.specs.Gregorian.{days_of_month}
 use Rattle.calendar.proofs.Months.{every, at}
 use Rattle.calendar.proofs.gregorian.month_length.Goals as goal
@@ -44,16 +45,8 @@ rest : (l : Bool) (m : ℕ) → 1 ≤ m → m ≤ 12 → (OneOf (2 ∷ []) m →
 rest l (suc m) h k f g = thirty_one l m k f g
 rest l zero h k f g = absurd (omega arith)
 
-pub returns-then-leap : goal.returns-then-leap
-returns-then-leap c = simp (c.in-2.is, c.if-leap.true)
-
-pub returns-else-leap : goal.returns-else-leap
-returns-else-leap c = simp (c.in-2.is, c.if-leap.false)
-
 pub returns-in-4 : goal.returns-in-4
 returns-in-4 c = thirty c.args.leap c.args.month c.in-4.is
 
 pub returns-in_default : goal.returns-in_default
-returns-in_default c =
-    let r = c.in_default.in_default-own.rest in
-    rest c.args.leap c.args.month c.requires.0 c.requires.1 r.0.1 r.1
+returns-in_default c = search (rules, rest)

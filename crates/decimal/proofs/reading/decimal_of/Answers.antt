@@ -1,71 +1,70 @@
 -- Too many columns, no place for the point, no number before it, another byte there, or the decimals behind it. Assumes nothing.
-use mathlib.Core.Path.{◌≡◌, refl, sym, ap, ◌∙◌}
-use mathlib.Core.Bool.{Bool, true, false, cond}
-use mathlib.Core.List.{List, []}
-use Prim.Native.Nat.{ℕ, ◌+◌, ◌≤◌, ◌<◌, ◌^◌}
+use Rattle.std.proofs.Common.{◌≡◌, ◌≤◌, ◌<◌, ◌+◌, ◌-◌, ◌^◌, ℕ, Bool, true, false, cond, List, [], ◌∷◌, length, take, drop, Option, None, Some, refl, sym, ap, ◌∙◌, arith, eqb}
 use native.Mathlib.Nat.{lt_of_lt_of_le}
-use native.Mathlib.Omega.{arith}
-use lib.Dec.{leb}
-use lib.ListN.{length, take, drop, drop_of_length-le}
-use lib.Seq.{length-take-le}
-use borrow.Author.Tests.{lt-leb, le-leb}
+use lib.ListN.{drop_of_length-le, length-take}
+use borrow.Author.Tests.{le-leb}
+use Rattle.std.specs.Cmp.Lexicographic.{pointwise}
 use Rattle.decimal.specs.declared.reading.Number.{Number}
-use Rattle.decimal.specs.declared.reading.Field.{Field}
-use Rattle.decimal.specs.declared.reading.Field.TheVariants.{Holds, NoNumber}
-use Rattle.decimal.specs.Reading.{most_columns, with_decimals, whole_of, decimal_of}
-use Rattle.decimal.proofs.Bytes.{point-first, point_not}
+use Rattle.decimal.specs.Reading.{most_columns, point, digits_behind, with_decimals, whole_of, decimal_of}
+use Rattle.decimal.proofs.Bytes.{point_first, point_none}
 use Rattle.decimal.proofs.Bounds.{ten_mono, whole-small}
 use Rattle.decimal.proofs.reading.decimal_of.Goals as goal
-use Rattle.decimal.proofs.reading.decimal_of.Goals.{In-Holds-2}
 
-module _ (signed : Bool) (at : ℕ) (t : List ℕ) where
-  by_columns : (y : Bool) → leb (length t) most_columns ≡ y → decimal_of signed at t ≡ cond y (with_decimals (whole_of signed (take at t)) (drop at t)) NoNumber
-  by_columns y e = ap (λ (z : Bool). cond z (with_decimals (whole_of signed (take at t)) (drop at t)) NoNumber) e
+module _ (signed : Bool) (at : ℕ) (t : List ℕ) (h : length t ≤ most_columns) where
+  by_whole : (f : Option Number) → whole_of signed (take at t) ≡ f → decimal_of signed at t ≡ with_decimals f (drop at t)
+  by_whole f e =
+      ap (λ (y : Bool). cond y (with_decimals (whole_of signed (take at t)) (drop at t)) None) (le-leb (length t) most_columns h)
+      ∙ ap (λ (g : Option Number). with_decimals g (drop at t)) e
 
-  past : length t ≤ most_columns → length t ≤ at → NoNumber ≡ decimal_of signed at t
+  past : length t < at → decimal_of signed at t ≡ None
+  past l =
+      by_whole _ refl
+      ∙ ap (with_decimals (whole_of signed (take at t))) (drop_of_length-le t (omega arith))
+      ∙ point_none (whole_of signed (take at t)) [] refl
+
+  no_whole : whole_of signed (take at t) ≡ None → decimal_of signed at t ≡ None
   unfolding with_decimals
-  past h l = sym (by_columns true (le-leb (length t) most_columns h) ∙ ap (with_decimals (whole_of signed (take at t))) (drop_of_length-le t l) ∙ go (whole_of signed (take at t)))
-    where
-      go : (f : Field) → with_decimals f [] ≡ NoNumber
-      go NoNumber = refl
-      go (Holds n) = refl
+  no_whole e = by_whole None e
 
-  by_whole : (f : Field) → length t ≤ most_columns → whole_of signed (take at t) ≡ f → decimal_of signed at t ≡ with_decimals f (drop at t)
-  by_whole f h e = by_columns true (le-leb (length t) most_columns h) ∙ ap (λ (g : Field). with_decimals g (drop at t)) e
+  no_point : pointwise eqb (take 1 (drop at t)) (point ∷ []) ≡ false → decimal_of signed at t ≡ None
+  no_point e = by_whole _ refl ∙ point_none (whole_of signed (take at t)) (drop at t) e
 
-  -- what stands before the point leaves room for a digit in the point's column
-  room : (n : Number) → at < length t → whole_of signed (take at t) ≡ Holds n → n.digits < 10 ^ (at + 1)
-  room n h e = lt_of_lt_of_le (whole-small (take at t) signed n e) (ten_mono (length (take at t)) (at + 1) (omega (arith, length-take-le at t (omega arith))))
+  pointed : (n : Number) (rest : List ℕ) → whole_of signed (take at t) ≡ Some n
+      → pointwise eqb (take 1 (drop at t)) (point ∷ []) ≡ true → rest ≡ drop 1 (drop at t)
+      → digits_behind n.negative n.digits rest ≡ decimal_of signed at t
+  pointed n rest e f g = point_first n (drop at t) rest f g ∙ sym (by_whole (Some n) e)
 
-pub returns-then-text-gt-MOST_COLUMNS : goal.returns-then-text-gt-MOST_COLUMNS
-returns-then-text-gt-MOST_COLUMNS c = let a = c.args in sym (by_columns a.signed a.point a.text.now false (lt-leb _ most_columns c.if-text-gt-MOST_COLUMNS.true))
+-- what stands before the point leaves room for the decimals
+room : (signed : Bool) (at : ℕ) (t rest : List ℕ) (n : Number)
+    → whole_of signed (take at t) ≡ Some n → at + length rest ≤ most_columns → n.digits < 10 ^ (most_columns - length rest)
+room signed at t rest n e h =
+    lt_of_lt_of_le (whole-small (take at t) signed n e) (ten_mono (length (take at t)) (most_columns - length rest) (omega (arith, length-take at t)))
 
-pub returns-then-point-text : goal.returns-then-point-text
-returns-then-point-text c = let a = c.args in past a.signed a.point a.text.now c.if-text-gt-MOST_COLUMNS.false c.if-point-text.true
+pub returns-in_err-whole : goal.returns-in_err-whole
+returns-in_err-whole c =
+    c.from_residual.ensures
+    ∙ sym (past c.args.signed c.args.point c.args.text.now c.if-text-gt-MOST_COLUMNS.false c.in_err-whole.ensures.cases)
 
-pub slice_bounds-whole_of-end : goal.slice_bounds-whole_of-end
-slice_bounds-whole_of-end c = let a = c.args in sym (length-take-le a.point a.text.now (omega arith))
+pub returns-in_err-before : goal.returns-in_err-before
+returns-in_err-before c =
+    c.from_residual-in_err-before.ensures
+    ∙ sym (no_whole c.args.signed c.args.point c.args.text.now c.if-text-gt-MOST_COLUMNS.false (sym (rw c.in_ok-whole.ensures.cases.1 at c.in_err-before.ensures)))
 
-pub returns-then-text-point-ne46 : goal.returns-then-text-point-ne46
-returns-then-text-point-ne46 c =
-    let a = c.args in
-    let n = c.in-Holds.n in
-    sym (by_whole a.signed a.point a.text.now (Holds n) c.if-text-gt-MOST_COLUMNS.false ((let it : (let a = c.args in whole_of a.signed (take a.point a.text.now) ≡ Holds c.in-Holds.n) = sym c.whole_of-whole.ensures ∙ c.in-Holds.is in it)) ∙ point_not a.text.now a.point n.negative n.digits (omega arith) c.if-text-point-ne46.true)
+pub returns-in_err-decimals : goal.returns-in_err-decimals
+returns-in_err-decimals c =
+    c.from_residual-in_err-decimals.ensures
+    ∙ sym (no_point c.args.signed c.args.point c.args.text.now c.if-text-gt-MOST_COLUMNS.false (rw c.in_ok-whole.ensures.cases.2 at c.in_err-decimals.ensures.cases))
 
-pub digits_behind-requires : goal.digits_behind-requires
-digits_behind-requires c =
-    let a = c.args in
-    (omega arith, c.if-text-gt-MOST_COLUMNS.false, room a.signed a.point a.text.now c.in-Holds.n (omega arith) ((let it : (let a = c.args in whole_of a.signed (take a.point a.text.now) ≡ Holds c.in-Holds.n) = sym c.whole_of-whole.ensures ∙ c.in-Holds.is in it)))
+pub digits_behind-requires-clause-room : goal.digits_behind-requires-clause-room
+digits_behind-requires-clause-room c =
+    let s = c.in_ok-whole.ensures.cases in
+    room c.args.signed c.args.point c.args.text.now c.in_ok-decimals.decimals.now c.in_ok-before.before (sym (rw s.1 at c.in_ok-before.ensures))
+    (omega (arith, s, c.in_ok-decimals.ensures.cases.2))
 
-pub returns-else-text-point-ne46 : goal.returns-else-text-point-ne46
-returns-else-text-point-ne46 c =
-    let a = c.args in
-    let n = c.in-Holds.n in
+pub returns : goal.returns
+returns c =
+    let s = c.in_ok-whole.ensures.cases in
+    let d = c.in_ok-decimals.ensures.cases in
     c.digits_behind.ensures
-    ∙ sym (by_whole a.signed a.point a.text.now (Holds n) c.if-text-gt-MOST_COLUMNS.false ((let it : (let a = c.args in whole_of a.signed (take a.point a.text.now) ≡ Holds c.in-Holds.n) = sym c.whole_of-whole.ensures ∙ c.in-Holds.is in it)) ∙ point-first a.text.now a.point n.negative n.digits (omega arith) c.if-text-point-ne46.false)
-
-pub returns-in-NoNumber : goal.returns-in-NoNumber
-unfolding with_decimals
-returns-in-NoNumber c =
-    let a = c.args in
-    sym (by_whole a.signed a.point a.text.now NoNumber c.if-text-gt-MOST_COLUMNS.false (sym c.whole_of-whole.ensures ∙ c.in-NoNumber.is))
+    ∙ pointed c.args.signed c.args.point c.args.text.now c.if-text-gt-MOST_COLUMNS.false c.in_ok-before.before c.in_ok-decimals.decimals.now
+    (sym (rw s.1 at c.in_ok-before.ensures)) (rw s.2 at d.0) (rw s.2 at d.1)

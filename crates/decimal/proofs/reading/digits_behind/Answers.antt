@@ -1,48 +1,50 @@
--- Before each turn the digits passed are in n, and those that are left go behind them; n takes a column for each digit, so 64 bits hold it.
+-- Before each turn the digits passed are in `digits`, and those that are left go behind them; each digit takes a column, so 64 bits hold it.
 -- Assumes nothing.
-use mathlib.Core.Path.{refl, ◌∙◌}
-use Prim.Native.Nat.{◌+◌, ◌<◌, ◌-◌}
-use native.Mathlib.Omega.{arith}
+use Rattle.std.proofs.Common.{◌<◌, ◌+◌, ◌-◌, ◌*◌, ◌^◌, ℕ, true, false, length, get_or, drop, sym, ap, ◌∙◌, arith}
 use native.Mathlib.Nat.{lt_of_lt_of_le}
-use lib.ListN.{get_or}
-use Rattle.decimal.proofs.Bytes.{digit-first, digit_below, digit_above, digit_end}
+use Rattle.decimal.specs.Reading.{most_columns, digits_behind}
+use Rattle.decimal.proofs.Bytes.{digit_bounds, by_digit, digits_end}
 use Rattle.decimal.proofs.Bounds.{grows, ten_mono}
 use Rattle.decimal.proofs.reading.digits_behind.Goals as goal
-use Rattle.decimal.proofs.reading.digits_behind.Goals.{In-loop-i}
 
-pub loop-i-init : goal.loop-i-init
-loop-i-init c = (omega (arith, c.requires.0), c.requires.2, refl)
+pub returns-then-not-is_ascii_digit : goal.returns-then-not-is_ascii_digit
+returns-then-not-is_ascii_digit c =
+    let l = c.loop-b in
+    let e = sym c.is_ascii_digit.ensures.value ∙ c.if-not-is_ascii_digit.true in
+    sym (by_digit c.args.before.negative l.digits l.b-index c.args.text.now false c.loop-b-test.true e)
+    ∙ l.invariant.rest
 
-pub returns-then-b-lt48 : goal.returns-then-b-lt48
-returns-then-b-lt48 c =
-    let l = c.loop-i in
+-- while a column is left for one more digit
+small : (n k : ℕ) → n < 10 ^ k → k < 18 → n < 100000000000000000
+small n k h e = lt_of_lt_of_le h (ten_mono k 17 (omega arith))
+
+pub overflow_mul-digits : goal.overflow_mul-digits
+overflow_mul-digits c =
+    omega (arith, small c.loop-b.digits (most_columns - length c.args.text.now + c.loop-b.b-index) c.loop-b.invariant.room (omega (arith, c.requires.columns)))
+
+pub overflow_add-digits : goal.overflow_add-digits
+overflow_add-digits c =
+    let s = small c.loop-b.digits (most_columns - length c.args.text.now + c.loop-b.b-index) c.loop-b.invariant.room (omega (arith, c.requires.columns)) in
+    omega (arith, s, (digit_bounds (get_or c.args.text.now c.loop-b.b-index 0) (sym c.is_ascii_digit.ensures.value ∙ c.if-not-is_ascii_digit.false)).1)
+
+pub loop-b-preserved : goal.loop-b-preserved
+loop-b-preserved c =
+    let l = c.loop-b in
     let a = c.args in
-    digit_below a.text.now l.i a.before.negative l.n (omega arith) c.if-b-lt48.true ∙ l.invariant.2
-
-pub returns-then-b-gt57 : goal.returns-then-b-gt57
-returns-then-b-gt57 c =
-    let l = c.loop-i in
-    let a = c.args in
-    digit_above a.text.now l.i a.before.negative l.n (omega arith) (omega (arith, c.if-b-gt57.true)) ∙ l.invariant.2
-
-pub overflow_mul-n : goal.overflow_mul-n
-overflow_mul-n c = omega (arith, (let it : c.loop-i.n < 100000000000000000 = let l = c.loop-i in lt_of_lt_of_le l.invariant.1 (ten_mono l.i 17 (omega (arith, c.requires.1))) in it))
-
-pub overflow_add-n : goal.overflow_add-n
-overflow_add-n c = omega (arith, (let it : c.loop-i.n < 100000000000000000 = let l = c.loop-i in lt_of_lt_of_le l.invariant.1 (ten_mono l.i 17 (omega (arith, c.requires.1))) in it), c.if-b-gt57.false)
-
-pub loop-i-preserved : goal.loop-i-preserved
-loop-i-preserved c =
-    let l = c.loop-i in
-    let a = c.args in
-    let b = get_or a.text.now l.i 0 in (
-      omega arith,
-      grows l.n l.i (l.i + 1) (b - 48) l.invariant.1 (omega (arith, c.if-b-gt57.false)) refl,
-      digit-first a.text.now l.i a.before.negative l.n (omega arith) c.if-b-lt48.false c.if-b-gt57.false ∙ l.invariant.2,
-    )
+    let t = a.text.now in
+    let e = sym c.is_ascii_digit.ensures.value ∙ c.if-not-is_ascii_digit.false in
+    let k = most_columns - length t + l.b-index in
+    record {
+      room =
+          grows l.digits k (most_columns - length t + (l.b-index + 1)) c.from.result l.invariant.room
+          (omega (arith, (digit_bounds (get_or t l.b-index 0) e).1)) (omega arith);
+      rest =
+          ap (λ (d : ℕ). digits_behind a.before.negative (l.digits * 10 + d) (drop (l.b-index + 1) t)) c.from.ensures
+          ∙ sym (by_digit a.before.negative l.digits l.b-index t true c.loop-b-test.true e)
+          ∙ l.invariant.rest;
+    }
 
 pub returns : goal.returns
 returns c =
-    let l = c.loop-i in
-    let a = c.args in
-    digit_end a.text.now l.i a.before.negative l.n (omega arith) ∙ l.invariant.2
+    let l = c.loop-b in
+    sym (digits_end c.args.before.negative l.digits l.b-index c.args.text.now (omega arith)) ∙ l.invariant.rest

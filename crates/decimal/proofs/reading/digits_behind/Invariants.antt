@@ -1,14 +1,11 @@
--- Before each turn the digits passed are in n, and those that are left go behind them; n takes a column for each digit, so 64 bits hold it.
+-- Before each turn the digits passed are in `digits`, and those that are left go behind them; each digit takes a column, so 64 bits hold it.
 -- Assumes nothing.
-use mathlib.Core.Path.{◌≡◌}
-use Prim.Native.Nat.{◌≤◌, ◌<◌, ◌-◌, ◌^◌}
-use lib.ListN.{length, drop}
-use Rattle.decimal.specs.Reading.{digits_behind}
+use Rattle.std.proofs.Common.{◌≡◌, ◌+◌, ◌^◌, ◌-◌, ◌<◌, length, drop}
+use Rattle.decimal.specs.Reading.{most_columns, digits_behind}
 use Rattle.decimal.proofs.reading.digits_behind.Given as goal
 
-abbrev pub invariant-loop-i : goal.invariant-loop-i
-invariant-loop-i l =
-    (l.i ≤ length l.text) × (l.n < 10 ^ l.i) × (digits_behind l.before.negative l.n (drop l.i l.text) ≡ digits_behind l.before.negative l.before.digits (drop l.from l.text))
-
-abbrev pub decreases-loop-i : goal.decreases-loop-i
-decreases-loop-i l = length l.text - l.i
+abbrev pub invariant-loop-b : goal.invariant-loop-b
+invariant-loop-b l = record {
+  room : l.digits < 10 ^ (most_columns - length l.text + l.b-index);
+  rest : digits_behind l.before.negative l.digits (drop l.b-index l.text) ≡ digits_behind l.before.negative l.before.digits l.text;
+}

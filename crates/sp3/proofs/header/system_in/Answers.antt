@@ -1,28 +1,36 @@
 -- A line without the columns has no time system; otherwise the three bytes are held against UTC and then GPS, and what is neither is another.
 -- Assumes nothing.
-use mathlib.Core.Path.{refl, sym, ap, ◌∙◌}
-use mathlib.Core.Bool.{true, false}
-use native.Mathlib.Omega.{arith}
-use lib.ListN.{drop}
+use Rattle.std.proofs.Common.{true, false, drop, refl, sym, arith, inl, inr}
 use Rattle.common.specs.Text.{text}
 use Rattle.sp3.specs.Lines.{begins}
-use Rattle.sp3.proofs.Said.{tail, short_system, by_system}
+use Rattle.sp3.proofs.Said.{short_system, by_system, columns_begin}
 use Rattle.sp3.proofs.header.system_in.Goals as goal
 
-pub returns-then-line-lt-SYSTEM_LAST : goal.returns-then-line-lt-SYSTEM_LAST
-returns-then-line-lt-SYSTEM_LAST c = let a = c.args in short_system a.leap_seconds a.line.now (omega arith)
+pub returns-in-None : goal.returns-in-None
+returns-in-None c = short_system c.args.leap_seconds c.args.line.now (elim c.in-None.ensures.lookup.0 [ inl h ↦ absurd (omega arith) | inr h ↦ h ])
 
-pub returns-then-begins : goal.returns-then-begins
-returns-then-begins c =
+pub returns-in-Some : goal.returns-in-Some
+returns-in-Some c =
     let l = c.args.line.now in
-    sym (by_system c.args.leap_seconds l true (begins (text "GPS") (drop 9 l)) (omega arith) (ap (begins (text "UTC")) (sym (tail 9 l)) ∙ sym c.begins.ensures ∙ c.if-begins.true) refl)
+    let k = c.in-Some.ensures.lookup.0 in
+    sym
+    (by_system c.args.leap_seconds l true (begins (text "GPS") (drop 9 l)) k.1
+    (columns_begin (text "UTC") l c.in-Some.columns.now refl k.2 k.3 c.starts_with.ensures.value c.if-starts_with.true) refl)
 
-pub returns-then-begins-2 : goal.returns-then-begins-2
-returns-then-begins-2 c =
+pub returns-in-Some-2 : goal.returns-in-Some-2
+returns-in-Some-2 c =
     let l = c.args.line.now in
-    sym (by_system c.args.leap_seconds l false true (omega arith) (ap (begins (text "UTC")) (sym (tail 9 l)) ∙ sym c.begins.ensures ∙ c.if-begins.false) (ap (begins (text "GPS")) (sym (tail 9 l)) ∙ sym c.begins-2.ensures ∙ c.if-begins-2.true))
+    let k = c.in-Some.ensures.lookup.0 in
+    sym
+    (by_system c.args.leap_seconds l false true k.1
+    (columns_begin (text "UTC") l c.in-Some.columns.now refl k.2 k.3 c.starts_with.ensures.value c.if-starts_with.false)
+    (columns_begin (text "GPS") l c.in-Some.columns.now refl k.2 k.3 c.if-starts_with-2.ensures.value refl))
 
-pub returns : goal.returns
-returns c =
+pub returns-in-Some-3 : goal.returns-in-Some-3
+returns-in-Some-3 c =
     let l = c.args.line.now in
-    sym (by_system c.args.leap_seconds l false false (omega arith) (ap (begins (text "UTC")) (sym (tail 9 l)) ∙ sym c.begins.ensures ∙ c.if-begins.false) (ap (begins (text "GPS")) (sym (tail 9 l)) ∙ sym c.begins-2.ensures ∙ c.if-begins-2.false))
+    let k = c.in-Some.ensures.lookup.0 in
+    sym
+    (by_system c.args.leap_seconds l false false k.1
+    (columns_begin (text "UTC") l c.in-Some.columns.now refl k.2 k.3 c.starts_with.ensures.value c.if-starts_with.false)
+    (columns_begin (text "GPS") l c.in-Some.columns.now refl k.2 k.3 c.if-starts_with-2.ensures.value refl))

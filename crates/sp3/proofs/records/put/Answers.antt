@@ -1,43 +1,29 @@
--- A position is stored in one place and in three; any other line stores nothing. Assumes nothing.
-use borrow.Author.Rules.{rules}
-use mathlib.Core.Path.{◌≡◌, sym, ap, ◌∙◌}
-use mathlib.Core.List.{List, []}
-use Prim.Native.Nat.{ℕ, ◌*◌}
-use lib.IntN.{ℤ}
-use lib.Ieee.{Float}
-use native.Mathlib.Omega.{arith}
-use lib.ListN.{length}
+-- A line with no record stores nothing. Assumes nothing.
+use Rattle.std.proofs.Common.{◌≡◌, ◌*◌, ℤ, List, [], sym, ap, refl, ◌∙◌}
+use Rattle.units.specs.declared.Position.{Position}
 use Rattle.sp3.specs.declared.line.Line.{Line}
+use Rattle.sp3.specs.declared.line.Line.TheVariants.{Epoch, Located, Absent, Wrong, PassedOver}
 use Rattle.sp3.specs.Walks.{put_at}
-use Rattle.sp3.specs.Records.{Kept, kept_of, positions_of}
-use Rattle.sp3.proofs.Areas.{one, three, put_none}
+use Rattle.sp3.specs.Records.{Kept, kept_of, instants_of, positions_of}
+use Rattle.sp3.proofs.Areas.{put_none}
 use Rattle.sp3.proofs.records.put.Goals as goal
 
--- a line without a record
-nothing : (l : Line) (t : ℤ) (n : ℕ) (ps : List Float) → kept_of l t ≡ [] → ps ≡ put_at n (positions_of (kept_of l t)) ps
-unfolding positions_of
-nothing l t n ps e = sym (ap (λ (K : List Kept). put_at n (positions_of K) ps) e ∙ put_none n ps)
+no_record : (l : Line) (t : ℤ) → ((p : Position) → l ≡ Located p → ⊥) → kept_of l t ≡ []
+no_record (Epoch u) t h = refl
+no_record (Located p) t h = absurd (h p refl)
+no_record Absent t h = refl
+no_record Wrong t h = refl
+no_record PassedOver t h = refl
 
-pub returns-in-Located-clause-instants_after : goal.returns-in-Located-clause-instants_after
-returns-in-Located-clause-instants_after c = search (rules, one)
-
-pub returns-in-Located-clause-positions_after : goal.returns-in-Located-clause-positions_after
+pub returns-in_default : goal.returns-in_default
 unfolding positions_of
-returns-in-Located-clause-positions_after c =
+returns-in_default c =
     let a = c.args in
-    let p = c.in-Located.p in
-    let k = ap (λ (y : Line). length (kept_of y a.t.0)) c.in-Located.is in
-    three a.positions.now (3 * a.count) p.x p.y p.z (omega (arith, k, c.requires.1))
-    ∙ sym (ap (λ (y : Line). put_at (3 * a.count) (positions_of (kept_of y a.t.0)) a.positions.now) c.in-Located.is)
-
-pub returns-in-Epoch-clause-positions_after : goal.returns-in-Epoch-clause-positions_after
-returns-in-Epoch-clause-positions_after c = let a = c.args in nothing a.l a.t.0 (3 * a.count) a.positions.now (ap (λ (y : Line). kept_of y a.t.0) c.in-Epoch.is)
-
-pub returns-in-Absent-clause-positions_after : goal.returns-in-Absent-clause-positions_after
-returns-in-Absent-clause-positions_after c = let a = c.args in nothing a.l a.t.0 (3 * a.count) a.positions.now (ap (λ (y : Line). kept_of y a.t.0) c.in-Absent.is)
-
-pub returns-in-Wrong-clause-positions_after : goal.returns-in-Wrong-clause-positions_after
-returns-in-Wrong-clause-positions_after c = let a = c.args in nothing a.l a.t.0 (3 * a.count) a.positions.now (ap (λ (y : Line). kept_of y a.t.0) c.in-Wrong.is)
-
-pub returns-in-PassedOver-clause-positions_after : goal.returns-in-PassedOver-clause-positions_after
-returns-in-PassedOver-clause-positions_after c = let a = c.args in nothing a.l a.t.0 (3 * a.count) a.positions.now (ap (λ (y : Line). kept_of y a.t.0) c.in-PassedOver.is)
+    let e = no_record a.l a.t.0 c.in_default.not-Located in
+    record {
+      put = record {
+        instants = sym (ap (λ (K : List Kept). put_at a.place (instants_of K) a.areas.now.instants.now) e ∙ put_none a.place a.areas.now.instants.now);
+        positions = sym (ap (λ (K : List Kept). put_at (3 * a.place) (positions_of K) a.areas.now.positions.now) e ∙ put_none (3 * a.place) a.areas.now.positions.now);
+        same = record { instants = refl; positions = refl };
+      };
+    }
