@@ -8,13 +8,14 @@ use lib.ListN.{length, get_or, set, length-map}
 use lib.Ieee.{Float, nan}
 use Rattle.common.specs.Outcome.{written}
 use Rattle.samples.specs.Means.{Sample, bin, seconds, recording, mean_of, means}
-use Rattle.samples.specs.Sums.{Recorded, instants_of_means, frequencies_of_means}
+use Rattle.checks.specs.Checked.{Samples}
+use Rattle.samples.specs.Sums.{instants_of_means, frequencies_of_means}
 use Rattle.samples.proofs.Seconds.{count-means, few-means}
 use Rattle.samples.proofs.Recordings.{record_length}
 use Rattle.samples.proofs.Places.{instant_at, frequency_at}
 use Rattle.samples.proofs.Areas.{filled, filled_more, filled_all, length_filled}
 
-module _ (ts : List ℤ) (fs : List Float) (r : Recorded ts fs) (is : List ℤ) (hs : List Float) (li : length ts ≤ length is) (lh : length ts ≤ length hs) where
+module _ (ts : List ℤ) (fs : List Float) (r : Samples ts fs) (is : List ℤ) (hs : List Float) (li : length ts ≤ length is) (lh : length ts ≤ length hs) where
   -- after c means
   abbrev pub Filling : List ℤ → List Float → ℕ → Type 0
   Filling is' hs' c = (is' ≡ filled (instants_of_means ts fs) is c) × (hs' ≡ filled (frequencies_of_means ts fs) hs c)

@@ -16,4 +16,3 @@ mod Picking
 mod Limits
 mod Parting
 mod Ordering
-mod Copies

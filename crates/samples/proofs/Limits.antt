@@ -1,15 +1,15 @@
--- The limit on the instants of the first samples of two slices: at a place, and as the machine reads it. Samples that are alike to others are among them, so the limit and whatever else holds of the others' instants holds of theirs. Assumes nothing.
-use mathlib.Core.Path.{◌≡◌, refl, sym, ap, ◌∙◌, subst}
+-- The limit on instants: of a part of them, and as the machine reads one. Samples that are alike to others are among them, so the limit and whatever else holds of the others' instants holds of theirs. Assumes nothing.
+use mathlib.Core.Path.{◌≡◌, refl, sym, ap, subst}
 use mathlib.Core.Logic.{◌⊎◌, inl, inr}
-use mathlib.Core.Bool.{Bool, true, false, not, cond}
+use mathlib.Core.Bool.{Bool, true, false, cond}
 use mathlib.Core.List.Memᴰ
-use mathlib.Core.List.{List, [], ◌∷◌, Memᴰ}
+use mathlib.Core.List.{List, [], ◌∷◌, ◌++◌, Memᴰ}
 use Prim.Native.Nat.{ℕ, zero, suc, ◌+◌, ◌≤◌, ◌<◌}
 use native.Mathlib.Omega.{arith}
-use lib.Dec.{T, ltb, ltb→lt, nltb→le}
+use lib.Dec.{T, eqb}
 use lib.IntN.{ℤ, pos, nat_abs}
-use lib.ListN.{length, get_or, take, drop, get_or-eq_default}
-use lib.Seq.{get_or-take, get_or-drop, length-take-le}
+use lib.ListN.{length, get_or, take, drop, set}
+use lib.Seq.{get_or-drop}
 use lib.Ieee.{Float}
 use mir.Syntax.{w64}
 use mir.Val.{SFits}
@@ -19,13 +19,9 @@ use Rattle.checks.specs.Limits.{farthest_instant}
 use Rattle.common.specs.Integers.{eq_z}
 use Rattle.samples.specs.Means.{Sample, whole_second, bin, recording, instants, Alike}
 use Rattle.samples.specs.Runs.{Limited}
-use Rattle.samples.specs.Sorting.{SameBins}
+use Rattle.samples.specs.Sorting.{picked, SameBins}
 use Rattle.common.proofs.Integers.{eq→eq_z}
 use Rattle.samples.proofs.Recordings.{record_length, record_instants}
-
--- an instant among the first n that are within the limit
-pub limited_at : (n : ℕ) (ts : List ℤ) → Limited (take n ts) → (k : ℕ) → k < n → nat_abs (get_or ts k (pos 0)) ≤ farthest_instant
-limited_at n ts r k h = subst (λ (z : ℤ). nat_abs z ≤ farthest_instant) (get_or-take n ts k (pos 0) h) (r k)
 
 -- of a list's front, and of its rest
 pub limited-take : (n : ℕ) (l : List ℤ) → Limited l → Limited (take n l)
@@ -36,6 +32,30 @@ limited-take (suc n) (x ∷ l) h (suc k) = limited-take n l (λ j. h (suc j)) k
 
 pub limited-drop : (n : ℕ) (l : List ℤ) → Limited l → Limited (drop n l)
 limited-drop n l h k = subst (λ (z : ℤ). nat_abs z ≤ farthest_instant) (sym (get_or-drop n l k (pos 0))) (h (n + k))
+
+-- of a list with one instant changed, of two lists, and of those of a list that are picked
+pub limited-set : (l : List ℤ) (i : ℕ) (t : ℤ) → Limited l → nat_abs t ≤ farthest_instant → Limited (set l i t)
+limited-set [] i t h b k = h k
+limited-set (x ∷ l) zero t h b zero = b
+limited-set (x ∷ l) zero t h b (suc k) = h (suc k)
+limited-set (x ∷ l) (suc i) t h b zero = h 0
+limited-set (x ∷ l) (suc i) t h b (suc k) = limited-set l i t (λ j. h (suc j)) b k
+
+pub limited-append : (a b : List ℤ) → Limited a → Limited b → Limited (a ++ b)
+limited-append [] b h q k = q k
+limited-append (x ∷ a) b h q zero = h 0
+limited-append (x ∷ a) b h q (suc k) = limited-append a b (λ j. h (suc j)) q k
+
+pub limited-picked : (d : ℕ) (ms : List ℕ) (l : List ℤ) → Limited l → Limited (picked d ms l)
+unfolding picked
+limited-picked d [] l h k = omega arith
+limited-picked d (m ∷ ms) [] h k = h k
+limited-picked d (m ∷ ms) (x ∷ l) h k = go (eqb m d) (limited-picked d ms l (λ j. h (suc j))) k
+  where
+    go : (v : Bool) → Limited (picked d ms l) → Limited (cond v (x ∷ picked d ms l) (picked d ms l))
+    go true r zero = h 0
+    go true r (suc k) = r k
+    go false r k = r k
 
 -- as the machine holds it and reads it back
 pub limit_fits : (t : ℤ) → nat_abs t ≤ farthest_instant → SFits w64 t
@@ -93,24 +113,12 @@ module _ (P : ℤ → Type 0) where
   mem_all (x ∷ xs) f zero h = f x (Memᴰ.head refl)
   mem_all (x ∷ xs) f (suc k) h = mem_all xs (λ y m. f y (Memᴰ.tail m)) k (omega arith)
 
--- of the first n samples of two slices, before and after
-module _ (n : ℕ) (ts : List ℤ) (fs : List Float) (ts' : List ℤ) (fs' : List Float) (h : n ≤ length ts) (k : n ≤ length fs) (h' : n ≤ length ts') (k' : n ≤ length fs') (a : SameBins n ts fs ts' fs') where
-  pub alike_all : (P : ℤ → Type 0) → ((i : ℕ) → i < n → P (get_or ts i (pos 0))) → (i : ℕ) → i < n → P (get_or ts' i (pos 0))
+-- of the samples of two slices, before and after
+module _ (ts : List ℤ) (fs : List Float) (ts' : List ℤ) (fs' : List Float) (e : length fs ≡ length ts) (e' : length fs' ≡ length ts') (a : SameBins ts fs ts' fs') where
+  pub alike_all : (P : ℤ → Type 0) → ((i : ℕ) → i < length ts → P (get_or ts i (pos 0))) → (i : ℕ) → i < length ts' → P (get_or ts' i (pos 0))
   alike_all P f i u =
-      let S = recording (take n ts) (take n fs) in
-      let S' = recording (take n ts') (take n fs') in
-      let same : length (take n fs) ≡ length (take n ts) = length-take-le n fs k ∙ sym (length-take-le n ts h) in
-      let same' : length (take n fs') ≡ length (take n ts') = length-take-le n fs' k' ∙ sym (length-take-le n ts' h') in
-      let long : length S ≡ n = record_length (take n ts) (take n fs) same ∙ length-take-le n ts h in
-      let long' : length S' ≡ n = record_length (take n ts') (take n fs') same' ∙ length-take-le n ts' h' in
-      let old : (j : ℕ) → j < length S → P (get_or (instants S) j (pos 0)) = λ j v. subst P (sym (ap (λ (l : List ℤ). get_or l j (pos 0)) (record_instants (take n ts) (take n fs) same) ∙ get_or-take n ts j (pos 0) (omega arith))) (f j (omega arith)) in
-      subst P (ap (λ (l : List ℤ). get_or l i (pos 0)) (record_instants (take n ts') (take n fs') same') ∙ get_or-take n ts' i (pos 0) u)
-      (mem_all P S' (λ x m. all_mem P S old x (alike_mem S' S a x m)) i (omega arith))
-
-  -- the limit on them
-  pub alike_limited : Limited (take n ts) → Limited (take n ts')
-  alike_limited r i = go (ltb i n) (ltb→lt i n) (nltb→le i n)
-    where
-      go : (v : Bool) → (T v → i < n) → (T (not v) → n ≤ i) → nat_abs (get_or (take n ts') i (pos 0)) ≤ farthest_instant
-      go true f g = subst (λ (z : ℤ). nat_abs z ≤ farthest_instant) (sym (get_or-take n ts' i (pos 0) (f tt))) (alike_all (λ t. nat_abs t ≤ farthest_instant) (limited_at n ts r) i (f tt))
-      go false f g = subst (λ (z : ℤ). nat_abs z ≤ farthest_instant) (sym (get_or-eq_default (take n ts') (pos 0) (omega (arith, g tt, length-take-le n ts' h')))) (omega arith)
+      let S = recording ts fs in
+      let S' = recording ts' fs' in
+      let old : (j : ℕ) → j < length S → P (get_or (instants S) j (pos 0)) = λ j v. subst P (sym (ap (λ (l : List ℤ). get_or l j (pos 0)) (record_instants ts fs e))) (f j (omega (arith, record_length ts fs e))) in
+      subst P (ap (λ (l : List ℤ). get_or l i (pos 0)) (record_instants ts' fs' e'))
+      (mem_all P S' (λ x m. all_mem P S old x (alike_mem S' S a x m)) i (omega (arith, record_length ts' fs' e')))

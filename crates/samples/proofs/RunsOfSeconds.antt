@@ -16,14 +16,14 @@ use lib.Ieee.{Float}
 use Rattle.common.proofs.Parts.{lt_apart, le_parts, lt_parts, parts_le, parts_lt, parts_eq, add_parts}
 use Rattle.common.specs.Integers.{eq_z}
 use Rattle.samples.specs.Means.{Sample, whole_second, bin, seconds, recording}
-use Rattle.samples.specs.Sums.{Recorded, OneSecond}
+use Rattle.checks.specs.Checked.{Samples}
 use Rattle.samples.specs.Runs.{second_at, NeverFalls, Begins, Run}
 use Rattle.common.proofs.Integers.{eq_z→eq, eq→eq_z}
 use Rattle.samples.proofs.Seconds.{bin-append, rising}
 use Rattle.samples.proofs.Limits.{limited-take, limited-drop}
 use Rattle.samples.proofs.Recordings.{no_sample, record_length, record_at, record_take, record_drop}
 use Rattle.samples.proofs.OwnSeconds.{All}
-use Rattle.samples.proofs.SumsOfSeconds.{all}
+use Rattle.samples.proofs.SumsOfSeconds.{OfSecond, all}
 use Rattle.samples.proofs.Places.{Split, split-first, split_next, none_left, next_is}
 
 -- seconds that never fall from one sample to the next never fall
@@ -49,12 +49,13 @@ bin_none s (x ∷ xs) h = go (eq_z (whole_second x.instant) s) (eq_z→eq (whole
     go false f r = r
 
 -- a part of two slices that pass the checks
-recorded_part : (ts : List ℤ) (fs : List Float) (n m : ℕ) → Recorded ts fs → Recorded (take m (drop n ts)) (take m (drop n fs))
-recorded_part ts fs n m r =
+recorded_part : (ts : List ℤ) (fs : List Float) (n m : ℕ) → Samples ts fs → 0 < length (take m (drop n ts)) → Samples (take m (drop n ts)) (take m (drop n fs))
+recorded_part ts fs n m r h =
     record {
+      some = h;
       same = length-take m (drop n fs) ∙ ap (λ (k : ℕ). min m k) (length-drop n fs ∙ ap (λ (k : ℕ). k - n) r.same ∙ sym (length-drop n ts)) ∙ sym (length-take m (drop n ts));
       few = omega (arith, r.few, length-take m (drop n ts), length-drop n ts);
-      limited = limited-take m (drop n ts) (limited-drop n ts r.limited);
+      near = limited-take m (drop n ts) (limited-drop n ts r.near);
     }
 
 -- at most and not the same
@@ -129,7 +130,7 @@ bin_all s (x ∷ xs) a = go (eq_z (whole_second x.instant) s) (eq→eq_z (whole_
     go true h e = ap {B = List Sample} (λ (l : List Sample). x ∷ l) e
     go false h e = absurd h
 
-module _ (ts : List ℤ) (fs : List Float) (recorded : Recorded ts fs) (n : NeverFalls ts) (from end : ℕ) (b : Begins ts from) (r : Run ts from end) where
+module _ (ts : List ℤ) (fs : List Float) (recorded : Samples ts fs) (n : NeverFalls ts) (from end : ℕ) (b : Begins ts from) (r : Run ts from end) where
   -- the run's second, by its places in the run
   run_second : (k : ℕ) → k < end - from → second_at (take (end - from) (drop from ts)) k ≡ second_at ts from
   run_second k h = ap whole_second (get_or-take (end - from) (drop from ts) k (pos 0) h ∙ get_or-drop from ts k (pos 0)) ∙ r.same (from + k) (omega arith) (omega arith)
@@ -138,11 +139,10 @@ module _ (ts : List ℤ) (fs : List Float) (recorded : Recorded ts fs) (n : Neve
   run_length = length-take-le (end - from) (drop from ts) (omega (arith, length-drop from ts, r.inside))
 
   -- its samples are of one second
-  pub run_one : OneSecond (take (end - from) (drop from ts)) (take (end - from) (drop from fs))
+  pub run_one : OfSecond (take (end - from) (drop from ts)) (take (end - from) (drop from fs))
   run_one =
       record {
-        recorded = recorded_part ts fs from (end - from) recorded;
-        some = omega (arith, run_length, r.later);
+        recorded = recorded_part ts fs from (end - from) recorded (omega (arith, run_length, r.later));
         same = λ k h. run_second k (omega (arith, run_length)) ∙ sym (run_second 0 (omega (arith, r.later)));
       }
 

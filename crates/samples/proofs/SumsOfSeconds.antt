@@ -17,6 +17,7 @@ use Rattle.common.specs.Rounded.{◌⊘◌}
 use Rattle.common.specs.Sums.{sum_from}
 use Rattle.common.specs.Time.{microsecond}
 use Rattle.float.specs.Conversions.{nearest_of}
+use Rattle.checks.specs.Checked.{Samples}
 use Rattle.samples.specs.Means.{Sample, whole_second, recording, frequencies, offset_sum, mean_instant, mean_frequency, mean_of}
 use Rattle.samples.specs.Sums.{OneSecond, as_mean}
 use Rattle.samples.proofs.Recordings.{no_sample, record_length, record_at}
@@ -42,7 +43,12 @@ unfolding mean_of
 mean_first [] h = absurd (omega arith)
 mean_first (x ∷ xs) h = refl
 
-module _ (ts : List ℤ) (fs : List Float) (o : OneSecond ts fs) where
+-- samples of one second that pass the checks
+pub record OfSecond (ts : List ℤ) (fs : List Float) : Type 0 where
+  pub recorded : Samples ts fs
+  pub same : OneSecond ts
+
+module _ (ts : List ℤ) (fs : List Float) (o : OfSecond ts fs) where
   -- the first sample's instant
   abbrev pub base : ℤ
   base = get_or ts 0 (pos 0)
@@ -97,13 +103,13 @@ module _ (ts : List ℤ) (fs : List Float) (o : OneSecond ts fs) where
   pub mean_fits : SFits w64 (base +ℤ share *ℤ pos microsecond)
   mean_fits =
       let p = within_parts farthest_apart farthest_apart (share *ℤ pos microsecond) share_within in
-      within-fits (base +ℤ share *ℤ pos microsecond) (omega (arith, p.0, p.1, o.recorded.limited 0, abs_parts base, add_parts base (share *ℤ pos microsecond)))
+      within-fits (base +ℤ share *ℤ pos microsecond) (omega (arith, p.0, p.1, o.recorded.near 0, abs_parts base, add_parts base (share *ℤ pos microsecond)))
 
   -- the mean by the sums
   pub mean_is : as_mean (record { instant = base +ℤ share *ℤ pos microsecond; frequency = sum_from nought (frequencies (recording ts fs)) ⊘ nearest_of (pos (length ts)) }) ≡ as_mean (mean_of (recording ts fs))
   unfolding mean_instant mean_frequency
   mean_is =
       let S = recording ts fs in
-      sym (ap as_mean (mean_first S (omega (arith, long, o.some)))
-      ∙ ap (λ (x : Sample). as_mean (record { instant = mean_instant x.instant S; frequency = mean_frequency S })) (record_at ts fs o.recorded.same 0 o.some no_sample)
+      sym (ap as_mean (mean_first S (omega (arith, long, o.recorded.some)))
+      ∙ ap (λ (x : Sample). as_mean (record { instant = mean_instant x.instant S; frequency = mean_frequency S })) (record_at ts fs o.recorded.same 0 o.recorded.some no_sample)
       ∙ ap (λ (n : ℕ). as_mean (record { instant = base +ℤ quot_z (offset_sum base S) (pos n) *ℤ pos microsecond; frequency = sum_from nought (frequencies S) ⊘ nearest_of (pos n) })) long)

@@ -11,13 +11,7 @@ use Rattle.common.specs.Outcome.{Outcome, refused, answered, outcome, unless_ref
 use Rattle.checks.specs.Entries.{first_failing, samples_checks}
 use Rattle.common.specs.Numbers.{nought, thousand}
 use Rattle.common.specs.Time.{millisecond}
-use Rattle.samples.specs.declared.approach.Approach.{Approach}
-use Rattle.samples.specs.declared.approach.Approach.TheVariants.{At}
-use Rattle.samples.specs.declared.approach.Approach.TheVariants.{Refused as NoApproach}
 use Rattle.samples.specs.declared.approach.LeastSlope.{LeastSlope}
-use Rattle.samples.specs.declared.approach.Slope.{Slope}
-use Rattle.samples.specs.declared.approach.Slope.TheVariants.{Steepest}
-use Rattle.samples.specs.declared.approach.Slope.TheVariants.{Refused as NoSlope}
 
 -- "slopes under −120 are passed over", in hertz for each second: −15 * 2 ^ 3
 abbrev pub slope_floor : Float
@@ -76,16 +70,6 @@ estimate_measured_pca_time ts fs = unless_refused (first_failing (samples_checks
 -- "answers 0 where none is below zero or under three samples"
 abbrev pub steepest_slope : List ℤ → List Float → Outcome Float
 steepest_slope ts fs = outcome (first_failing (samples_checks ts fs)) (least_slope slope_floor ts fs).slope
-
--- the paper's number and value of each case of the answers
-abbrev pub approach_in : Approach → Outcome ℤ
-approach_in (At t) = answered t.0
-approach_in (NoApproach n) = refused n
-
--- the same of the steepest slope
-abbrev pub slope_in : Slope → Outcome Float
-slope_in (Steepest s) = answered s
-slope_in (NoSlope n) = refused n
 
 -- ---- what demand 3 says of the measured approach
 

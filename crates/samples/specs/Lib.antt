@@ -5,3 +5,4 @@ pub mod Slant
 pub mod Sums
 pub mod Runs
 pub mod Sorting
+pub mod Written

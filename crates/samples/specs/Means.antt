@@ -3,14 +3,12 @@ use Rattle.std.specs.Prelude.{ℕ, ◌≡◌, cond, List, [], ◌∷◌, map, �
 use Rattle.std.specs.Int.Signed.{lt_z, quot_z, shr_z}
 use Rattle.common.specs.Rounded.{◌⊘◌}
 use Rattle.float.specs.Conversions.{nearest_of}
-use Rattle.common.specs.Outcome.{Outcome, refused, answered, outcome, area}
+use Rattle.common.specs.Outcome.{Outcome, outcome, area}
 use Rattle.checks.specs.Entries.{first_failing, means_checks}
 use Rattle.common.specs.Numbers.{nought}
 use Rattle.common.specs.Integers.{eq_z}
 use Rattle.common.specs.Sums.{sum_from}
 use Rattle.common.specs.Time.{second, microsecond}
-use Rattle.samples.specs.declared.means.Downsampled.{Downsampled}
-use Rattle.samples.specs.declared.means.Downsampled.TheVariants.{Count, Refused}
 
 -- "A sample is an instant with its frequency", in nanoseconds and hertz
 pub record Sample : Type 0 where
@@ -91,11 +89,6 @@ downsampled_instants ts fs instant_area frequency_area =
 abbrev pub downsampled_frequencies : List ℤ → List Float → List ℤ → List Float → List Float
 downsampled_frequencies ts fs instant_area frequency_area =
     area (downsample_refusal ts fs instant_area frequency_area) (frequencies (means (recording ts fs))) frequency_area
-
--- the paper's number and value of each case of the answer
-abbrev pub downsampled_in : Downsampled → Outcome ℕ
-downsampled_in (Count n) = answered n
-downsampled_in (Refused n) = refused n
 
 -- ---- what demand 3 says of the means
 

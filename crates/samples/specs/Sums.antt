@@ -1,13 +1,13 @@
--- Inner: the first nanosecond of a second; slices that pass their checks, or hold samples of one second; the sums over such samples; the means of
+-- Inner: the first nanosecond of a second; instants of one second; the sums over such samples; the means of
 -- two slices.
 use Rattle.std.specs.Prelude.{ℕ, ◌+◌, ◌≤◌, ◌<◌, ◌≡◌, List, ℤ, pos, nat_abs, ◌*ℤ◌, length, Float}
-use Rattle.checks.specs.Limits.{most_samples, farthest_instant}
+use Rattle.checks.specs.Limits.{farthest_instant}
 use Rattle.common.specs.Numbers.{nought}
 use Rattle.common.specs.Sums.{sum_from}
 use Rattle.common.specs.Time.{second}
 use Rattle.samples.specs.declared.sums.Sums.{Sums}
 use Rattle.samples.specs.declared.sums.Mean.{Mean}
-use Rattle.samples.specs.Runs.{Limited, second_at}
+use Rattle.samples.specs.Runs.{second_at}
 use Rattle.samples.specs.Means.{Sample, whole_second, offset_sum, bin, recording, mean_of, means, instants, frequencies}
 
 -- the first nanosecond of an instant's second
@@ -19,17 +19,9 @@ pub record StartsSecond (start : ℤ) : Type 0 where
   pub whole : second_start start ≡ start
   pub limited : nat_abs start ≤ farthest_instant + second
 
--- two sample slices that pass checks 2 and 4; here there may be no sample
-pub record Recorded (ts : List ℤ) (fs : List Float) : Type 0 where
-  pub same : length fs ≡ length ts
-  pub few : length ts ≤ most_samples
-  pub limited : Limited ts
-
--- such slices of at least one sample, all of one second
-pub record OneSecond (ts : List ℤ) (fs : List Float) : Type 0 where
-  pub recorded : Recorded ts fs
-  pub some : 0 < length ts
-  pub same : (k : ℕ) → k < length ts → second_at ts k ≡ second_at ts 0
+-- instants all of one second
+abbrev pub OneSecond : List ℤ → Type 0
+OneSecond ts = (k : ℕ) → k < length ts → second_at ts k ≡ second_at ts 0
 
 -- the sums over some samples, their offsets counted from base
 abbrev pub sums_of : ℤ → List Sample → Sums

@@ -2,12 +2,15 @@
 #![tactic(auto)]
 
 mod approach;
+mod mean_areas;
 mod means;
 mod runs;
+mod shuffled;
 mod slant;
+mod sorted;
 mod sorting;
 mod sums;
 
-pub use approach::{Approach, Slope, estimate_measured_pca_time, steepest_slope};
-pub use means::{Downsampled, downsample_data};
+pub use approach::{estimate_measured_pca_time, gap_between, steepest_slope};
+pub use means::downsample_data;
 pub use slant::estimate_slant_range;

@@ -5,6 +5,7 @@ ghost use Rattle.common.specs.Integers.{eq_z};
 ghost use Rattle.samples.specs.Means.{recording, whole_second, mean_of};
 ghost use Rattle.samples.specs.Sums.{second_start, StartsSecond, OneSecond, sums_of, as_mean};
 
+use checks::Recording;
 use float::nearest;
 use units::{Hertz, MICROSECOND, Nanoseconds, SECOND};
 
@@ -26,11 +27,7 @@ pub(crate) struct Mean {
 pub(crate) fn second_of(t: i64) -> i64
     ensures { result ≡ whole_second t }
 {
-    if t >= 0 {
-        t / SECOND
-    } else {
-        -1 - (-1 - t) / SECOND
-    }
+    t.div_euclid(SECOND)
 }
 
 // The first nanosecond of an instant's second.
@@ -46,37 +43,32 @@ pub(crate) fn in_second(t: i64, start: i64) -> bool
     requires { StartsSecond start }
     ensures { result ≡ eq_z (whole_second t) (whole_second start) }
 {
-    if t < start {
-        return false;
-    }
-    t < start + SECOND
+    start <= t && t < start + SECOND
 }
 
 // The sums over samples of one second, whose first gives the base.
-fn run_sums(instants: &[i64], frequencies: &[f64]) -> Sums
-    requires { OneSecond instants.now frequencies.now }
-    ensures { result ≡ sums_of (get_or instants.now 0 (pos 0)) (recording instants.now frequencies.now) }
+fn run_sums(samples: &Recording) -> Sums
+    requires { OneSecond samples.now.instants.now }
+    ensures { result ≡ sums_of (get_or samples.now.instants.now 0 (pos 0)) (recording samples.now.instants.now samples.now.frequencies.now) }
 {
-    let base = instants[0];
+    let base = samples.instants[0];
     let mut micros: i64 = 0;
     let mut hertz: f64 = 0.0;
-    let mut k: usize = 0;
-    while k < instants.len() {
-        micros += (instants[k] - base) / MICROSECOND;
-        hertz += frequencies[k];
-        k += 1;
+    for (t, f) in samples.instants.iter().zip(samples.frequencies) {
+        micros += (*t - base) / MICROSECOND;
+        hertz += *f;
     }
     Sums { micros, hertz }
 }
 
 // The mean of samples of one second: the base and the mean offset in whole microseconds, toward zero; the mean frequency.
-pub(crate) fn run_mean(instants: &[i64], frequencies: &[f64]) -> Mean
-    requires { OneSecond instants.now frequencies.now }
-    ensures { result ≡ as_mean (mean_of (recording instants.now frequencies.now)) }
+pub(crate) fn run_mean(samples: &Recording) -> Mean
+    requires { OneSecond samples.now.instants.now }
+    ensures { result ≡ as_mean (mean_of (recording samples.now.instants.now samples.now.frequencies.now)) }
 {
-    let sums = run_sums(instants, frequencies);
-    let base = instants[0];
-    let count = instants.len() as i64;
+    let sums = run_sums(samples);
+    let base = samples.instants[0];
+    let count = samples.instants.len() as i64;
     Mean {
         instant: Nanoseconds(base + (sums.micros / count) * MICROSECOND),
         frequency: Hertz(sums.hertz / nearest(count)),

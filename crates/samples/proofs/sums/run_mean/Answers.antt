@@ -17,13 +17,13 @@ use Rattle.common.specs.Time.{microsecond}
 use Rattle.float.specs.Conversions.{nearest_of}
 use Rattle.samples.specs.declared.sums.Sums.{Sums}
 use Rattle.samples.specs.Means.{recording, frequencies, offset_sum}
-use Rattle.samples.specs.Sums.{OneSecond, as_mean}
+use Rattle.samples.specs.Sums.{as_mean}
 use Rattle.samples.proofs.Limits.{limit_fits}
-use Rattle.samples.proofs.SumsOfSeconds.{base, sum_fits, share, share_fits, offset_fits, mean_fits, mean_is}
+use Rattle.samples.proofs.SumsOfSeconds.{OfSecond, base, sum_fits, share, share_fits, offset_fits, mean_fits, mean_is}
 use Rattle.samples.proofs.sums.run_mean.Goals as goal
 
 -- what the machine computes on the way, of sums that are those over the samples
-module _ (ts : List ℤ) (fs : List Float) (o : OneSecond ts fs) (micros : ℤ) (e : micros ≡ offset_sum (base ts fs o) (recording ts fs)) where
+module _ (ts : List ℤ) (fs : List Float) (o : OfSecond ts fs) (micros : ℤ) (e : micros ≡ offset_sum (base ts fs o) (recording ts fs)) where
   count_is : to_z w64 (length ts) ≡ pos (length ts)
   count_is = to_z_pos w64 (length ts) (omega (arith, o.recorded.few))
 
@@ -34,34 +34,27 @@ module _ (ts : List ℤ) (fs : List Float) (o : OneSecond ts fs) (micros : ℤ) 
   offset_is = ap (λ (z : ℤ). z *ℤ pos microsecond) (ap back share_is ∙ to_z-of_z w64 (share ts fs o) (share_fits ts fs o))
 
   instant_is : back (base ts fs o) +ℤ back (back (quot_z (back micros) (to_z w64 (length ts))) *ℤ pos microsecond) ≡ base ts fs o +ℤ share ts fs o *ℤ pos microsecond
-  instant_is = ap₂ ◌+ℤ◌ (to_z-of_z w64 (base ts fs o) (limit_fits (base ts fs o) (o.recorded.limited 0))) (ap back offset_is ∙ to_z-of_z w64 (share ts fs o *ℤ pos microsecond) (offset_fits ts fs o))
-
-pub nonzero_div-result : goal.nonzero_div-result
-nonzero_div-result c =
-    let ts = c.args.instants.now in
-    let fs = c.args.frequencies.now in
-    let sums = c.run_sums-sums in
-    (c.requires.some, subst (SFits w64) (sym (share_is ts fs c.requires sums.result.micros (ap (λ (x : Sums). x.micros) sums.ensures))) (share_fits ts fs c.requires))
+  instant_is = ap₂ ◌+ℤ◌ (to_z-of_z w64 (base ts fs o) (limit_fits (base ts fs o) (o.recorded.near 0))) (ap back offset_is ∙ to_z-of_z w64 (share ts fs o *ℤ pos microsecond) (offset_fits ts fs o))
 
 pub overflow_mul-result : goal.overflow_mul-result
 overflow_mul-result c =
-    let ts = c.args.instants.now in
-    let fs = c.args.frequencies.now in
+    let ts = c.args.samples.now.instants.now in
+    let fs = c.args.samples.now.frequencies.now in
     let sums = c.run_sums-sums in
-    subst (SFits w64) (sym (offset_is ts fs c.requires sums.result.micros (ap (λ (x : Sums). x.micros) sums.ensures))) (offset_fits ts fs c.requires)
+    subst (SFits w64) (sym (offset_is ts fs (record { recorded = c.args.samples.now.checked; same = c.requires }) sums.result.micros (ap (λ (x : Sums). x.micros) sums.ensures))) (offset_fits ts fs (record { recorded = c.args.samples.now.checked; same = c.requires }))
 
 pub overflow_add-result : goal.overflow_add-result
 overflow_add-result c =
-    let ts = c.args.instants.now in
-    let fs = c.args.frequencies.now in
+    let ts = c.args.samples.now.instants.now in
+    let fs = c.args.samples.now.frequencies.now in
     let sums = c.run_sums-sums in
-    subst (SFits w64) (sym (instant_is ts fs c.requires sums.result.micros (ap (λ (x : Sums). x.micros) sums.ensures))) (mean_fits ts fs c.requires)
+    subst (SFits w64) (sym (instant_is ts fs (record { recorded = c.args.samples.now.checked; same = c.requires }) sums.result.micros (ap (λ (x : Sums). x.micros) sums.ensures))) (mean_fits ts fs (record { recorded = c.args.samples.now.checked; same = c.requires }))
 
 pub returns : goal.returns
 returns c =
-    let ts = c.args.instants.now in
-    let fs = c.args.frequencies.now in
-    let o = c.requires in
+    let ts = c.args.samples.now.instants.now in
+    let fs = c.args.samples.now.frequencies.now in
+    let o : OfSecond ts fs = record { recorded = c.args.samples.now.checked; same = c.requires } in
     let sums = c.run_sums-sums in
     let e = ap (λ (x : Sums). x.micros) sums.ensures in
     let near = c.nearest.result in
