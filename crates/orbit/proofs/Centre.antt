@@ -1,8 +1,7 @@
--- The predicted instant is the measured one moved by an offset of the search, so it and the centre are near: in milliseconds the centre is that offset
--- turned round. Assumes nothing.
+-- The predicted instant is the measured one moved by an offset of the search, so the centre is near 0: in milliseconds it is that offset turned round. Assumes nothing.
 use mathlib.Core.Path.{◌≡◌, refl, sym, ap, ◌∙◌, subst}
 use mathlib.Core.List.{List}
-use Prim.Native.Nat.{ℕ, zero, suc, ◌-◌, ◌/◌, ◌≤◌}
+use Prim.Native.Nat.{ℕ, zero, suc, ◌/◌, ◌≤◌}
 use native.Mathlib.Omega.{arith}
 use lib.IntN.{ℤ, pos, negsuc, neg_ℤ, nat_abs, ◌+ℤ◌, ◌-ℤ◌, ◌*ℤ◌, +ℤ_assoc, +ℤ_invr, +ℤ_idl, neg_ℤ-+ℤ}
 use lib.Signed.{mag, quot_z}
@@ -14,10 +13,7 @@ use Rattle.units.specs.declared.Observer.{Observer}
 use Rattle.float.specs.Bounds.{Within}
 use Rattle.float.specs.Conversions.{nearest_of}
 use Rattle.float.proofs.Bounds.{div_within, nearest-within}
-use Rattle.float.proofs.SignedBounds.{mag_add, mag_nat_abs}
-use Rattle.checks.specs.Limits.{farthest_instant}
 use Rattle.samples.specs.Approach.{gap_of}
-use Rattle.samples.specs.Runs.{farthest_moved}
 use Rattle.orbit.specs.Bounds.{farthest_offset, farthest_centre}
 use Rattle.orbit.specs.Closest.{moved_by_seconds, by_seconds, closest_instant}
 use Rattle.orbit.proofs.Offsets.{farthest_move, seconds_mag}
@@ -26,13 +22,6 @@ use Rattle.orbit.proofs.Ranges.{seconds-small}
 nat_abs_mag : (z : ℤ) (n : ℕ) → mag z ≤ n → nat_abs z ≤ suc n
 nat_abs_mag (pos a) n h = omega arith
 nat_abs_mag (negsuc a) n h = omega arith
-
-later-near : (t z : ℤ) → nat_abs t ≤ farthest_instant → nat_abs z ≤ farthest_offset → nat_abs (moved_by_seconds t z) ≤ farthest_moved
-later-near t z h k =
-    let m = mag_nat_abs t farthest_instant h in
-    let a = mag_add t (z *ℤ pos second) in
-    let s = seconds_mag z k in
-    nat_abs_mag (moved_by_seconds t z) (farthest_moved - 1) (omega (arith, a, m, s))
 
 -- from a moved instant back
 difference : (m y : ℤ) → m -ℤ (m +ℤ y) ≡ neg_ℤ y
@@ -61,8 +50,5 @@ gap_small m z h =
     div_within farthest_centre 1000 (nearest_of q) thousand (omega arith) (omega arith) (nearest-within farthest_quotient q (omega arith) (quotient_small d b)) (omega arith)
 
 module _ (tolerance : Seconds) (instants : List ℤ) (positions : List Float) (o : Observer) (measured : ℤ) where
-  pub predicted-near : nat_abs measured ≤ farthest_instant → nat_abs (closest_instant tolerance instants positions o measured) ≤ farthest_moved
-  predicted-near h = later-near measured (by_seconds tolerance instants positions o measured).offset h (seconds-small tolerance instants positions o measured)
-
   pub centre-small : Within farthest_centre (gap_of (closest_instant tolerance instants positions o measured) measured)
   centre-small = gap_small measured (by_seconds tolerance instants positions o measured).offset (seconds-small tolerance instants positions o measured)

@@ -1,6 +1,7 @@
 -- The residuals of a recording, and those of its instants that are such, one sample after the other. Assumes nothing.
-use mathlib.Core.Path.{◌≡◌, refl, sym, ap, ◌∙◌}
+use mathlib.Core.Path.{◌≡◌, refl, ap, ◌∙◌}
 use mathlib.Core.Bool.{Bool, true, false}
+use mathlib.Core.Logic.{◌⊎◌, inl, inr}
 use mathlib.Core.List.{List, [], ◌∷◌, ◌++◌, append_assoc, append-nil}
 use Prim.Native.Nat.{ℕ, suc, ◌+◌, ◌≤◌, ◌<◌}
 use native.Mathlib.Numerals.{add-one}
@@ -8,29 +9,34 @@ use native.Mathlib.Omega.{arith}
 use lib.IntN.{ℤ, pos}
 use lib.ListN.{length, get_or, take, drop, set, drop_of_length-le}
 use lib.Seq.{drop-cons, take-suc-set}
-use lib.Ieee.{Float, nan}
+use lib.Ieee.{Float}
 use Rattle.common.specs.Lists.{those, how_many}
 use Rattle.common.proofs.Those.{those_none, those_yes, those_no}
 use Rattle.samples.specs.Means.{Sample, recording}
-use Rattle.orbit.specs.Residuals.{Residual, skipped, residual, keep, residuals}
+use Rattle.orbit.specs.Residuals.{Residual, skipped, residual, residuals}
 
-pub keep_apart : (r : Residual) (ys : List Float) → keep r ys ≡ keep r [] ++ ys
-keep_apart skipped ys = refl
-keep_apart (residual y) ys = refl
+module _ (f : Sample → Residual) (ss : List ℤ) (bs : List Float) (before : List Float) where
+  module _ (t : ℤ) (x : Float) (ts : List ℤ) (xs : List Float) (first : ss ≡ t ∷ ts) (second : bs ≡ x ∷ xs) where
+    -- one sample more that has a residual, which stands after those before
+    pub one_residual : (y : Float) → residual y ≡ f (record { instant = t; frequency = x }) → (before ++ y ∷ []) ++ residuals f (recording ts xs) ≡ before ++ residuals f (recording ss bs)
+    unfolding residuals recording
+    one_residual y e = rw (first, second, ← e) (append_assoc before (y ∷ []) (residuals f (recording ts xs)))
 
--- one sample more: its residual, if it has one, stands after those before
-pub residuals-step : (f : Sample → Residual) (ts : List ℤ) (fs : List Float) (i : ℕ) (before : List Float) → i < length ts → i < length fs
-    → (before ++ keep (f (record { instant = get_or ts i (pos 0); frequency = get_or fs i nan })) []) ++ residuals f (recording (drop (i + 1) ts) (drop (i + 1) fs)) ≡ before ++ residuals f (recording (drop i ts) (drop i fs))
-unfolding residuals recording
-residuals-step f ts fs i before h k =
-    let r = f (record { instant = get_or ts i (pos 0); frequency = get_or fs i nan }) in
-    rw (drop-cons ts i (pos 0) h, drop-cons fs i nan k, add-one)
-    (append_assoc before (keep r []) (residuals f (recording (drop (suc i) ts) (drop (suc i) fs)))
-    ∙ ap (λ (l : List Float). before ++ l) (sym (keep_apart r (residuals f (recording (drop (suc i) ts) (drop (suc i) fs))))))
+    -- and one that has none
+    pub no_residual : skipped ≡ f (record { instant = t; frequency = x }) → before ++ residuals f (recording ts xs) ≡ before ++ residuals f (recording ss bs)
+    unfolding residuals recording
+    no_residual e = rw (first, second, ← e)
 
-pub residuals_end : (f : Sample → Residual) (ts : List ℤ) (fs : List Float) (i : ℕ) (before : List Float) → length ts ≤ i → before ++ residuals f (recording (drop i ts) (drop i fs)) ≡ before
-unfolding residuals recording
-residuals_end f ts fs i before h = rw (drop_of_length-le ts h) (append-nil before)
+  -- behind the last sample there is none
+  pub residuals_end : (length ss ≡ 0) ⊎ (length bs ≡ 0) → before ++ residuals f (recording ss bs) ≡ before
+  unfolding residuals recording
+  residuals_end e = ap (λ (l : List Float). before ++ l) (none ss bs e) ∙ append-nil before
+    where
+      none : (ts : List ℤ) (xs : List Float) → (length ts ≡ 0) ⊎ (length xs ≡ 0) → residuals f (recording ts xs) ≡ []
+      none [] xs h = refl
+      none (t ∷ ts) [] h = refl
+      none (t ∷ ts) (x ∷ xs) (inl h) = absurd (omega arith)
+      none (t ∷ ts) (x ∷ xs) (inr h) = absurd (omega arith)
 
 -- one value written after the first n
 pub pushed : (l : List Float) (n : ℕ) (v : Float) → n < length l → take (n + 1) (set l n v) ≡ take n l ++ v ∷ []

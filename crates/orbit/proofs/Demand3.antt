@@ -25,7 +25,8 @@ use Rattle.common.specs.Numbers.{largest_finite}
 use Rattle.orbit.specs.declared.fit.Report.{Report}
 use Rattle.orbit.proofs.Models.{inversion_eight}
 use Rattle.orbit.specs.Window.{window_seconds, window_start, inversion_of, model_or}
-use Rattle.orbit.specs.Propagation.{Motion, motion_at}
+use Rattle.orbit.specs.declared.propagation.Motion.{Motion}
+use Rattle.orbit.specs.Propagation.{motion_at}
 use Rattle.orbit.specs.Fit.{trial, coarse, report_of_trial, fit_of, none_usable_refusal}
 use Rattle.orbit.specs.Residuals.{Inputs, propagated_by, moved, lies_outside, outside_count, residual_in, residual_of, keep, residuals}
 use Rattle.orbit.specs.Passes.{approach_or, middle_of, measured_of, pass_outcome, pass_refusal, pass}

@@ -1,33 +1,24 @@
--- The stages as the code runs them end where the search of the whole list does; the centre and so every shift is small. Assumes nothing.
+-- The stages run one after the other end where the search of the whole list does; the centre and so every shift is small. Assumes nothing.
 use mathlib.Core.Path.{◌≡◌, refl, sym, ap, ◌∙◌, subst}
 use mathlib.Core.Bool.{Bool, true, false, cond}
-use mathlib.Core.List.{List, [], ◌++◌, map, map-append}
+use mathlib.Core.List.{[], ◌++◌, append-nil}
 use Prim.Native.Nat.{ℕ, ◌+◌, ◌≤◌}
 use native.Mathlib.Omega.{arith}
-use lib.Dec.{T}
-use lib.IntN.{ℤ}
-use lib.ListN.{length}
 use lib.Ieee.{Float, lt}
 use Rattle.common.specs.Rounded.{◌⊖◌}
-use Rattle.common.specs.Numbers.{nought, largest_finite, five, fifteen, twentieth, thousandth}
-use Rattle.common.specs.Outcome.{refused, answered}
 use Rattle.common.specs.Search.{first_best}
+use Rattle.common.specs.Numbers.{nought, five, fifteen, twentieth, thousandth}
 use Rattle.float.specs.Signs.{magnitude_of}
 use Rattle.float.specs.Bounds.{Within}
 use Rattle.float.proofs.Bounds.{sub_within}
 use Rattle.orbit.specs.declared.stages.Stage.{Stage}
-use Rattle.orbit.specs.declared.stages.LeastSoFar.{LeastSoFar}
-use Rattle.orbit.specs.Bounds.{FitAreas, SmallStage, farthest_centre, farthest_coarse, farthest_start, farthest_fine, farthest_shift}
-use Rattle.orbit.specs.Fit.{Trial, Best, none_yet, found, first_least, shifts_of, coarse_stage, fine_stage, micro_stage, coarse, Basis, report_of_best, fit_by_trials, none_usable_refusal}
-use Rattle.orbit.specs.Stages.{state_of, state, updates, after_stage, after_coarse, after_further, refined, report_of_state, finished}
+use Rattle.orbit.specs.Bounds.{SmallStage, farthest_centre, farthest_coarse, farthest_start, farthest_fine, farthest_shift}
+use Rattle.orbit.specs.Fit.{Trial, Best, none_yet, found, first_least, shifts_of, coarse_stage, fine_stage, micro_stage, coarse, shifts}
+use Rattle.orbit.specs.Fitting.{after_stage}
 use Rattle.orbit.proofs.Shifts.{weaken}
-use Rattle.orbit.proofs.Updates.{state_search, updates-append, Below, below_least, stage_kept}
-use Rattle.orbit.proofs.FirstLeast.{least_from, still_found}
-use Rattle.orbit.proofs.ListOfShifts.{stage_after, fit_by_stages}
-
--- the values may have changed, but not in number
-pub still_fitting : {instants samples : List ℤ} {positions frequencies values : List Float} (values' : List Float) → length values' ≡ length values → FitAreas instants positions samples frequencies values → FitAreas instants positions samples frequencies values'
-still_fitting values' e h = record { table = h.table; sampled = h.sampled; room = omega (arith, h.room, e) }
+use Rattle.orbit.proofs.Updates.{BestWithin, stage_kept}
+use Rattle.orbit.proofs.FirstLeast.{next_stage, still_found}
+use Rattle.orbit.proofs.ListOfShifts.{stage_after, least_by_stages}
 
 -- ---- every stage is small
 
@@ -45,88 +36,79 @@ pub micro_fits : (best : Float) → Within farthest_fine best → SmallStage (mi
 micro_fits best h = record { start = start-within farthest_fine 1 best thousandth (omega arith) h (omega arith); increment = omega arith; steps = omega arith }
 
 module _ (try : Float → Trial) where
-  -- ---- what was found: a further stage from it
-
-  found_stage : (f : Float → Stage) (t : Trial) → state (stage_after try f (found t)) ≡ after_further try f (state_of t)
-  found_stage f t = sym (state_search try (found t) (shifts_of (f t.shift)))
-
-  found_report : (basis : Basis) (t : Trial) (L : List Float) → report_of_best basis (least_from try (found t) L) ≡ answered (report_of_state basis (state (least_from try (found t) L)))
-  found_report basis t L = let r = still_found try t L in go (least_from try (found t) L) r.0 r.1
-    where
-      go : (b : Best) (u : Trial) → b ≡ found u → report_of_best basis b ≡ answered (report_of_state basis (state b))
-      go b u e = rw e refl
-
-  both_stages : (basis : Basis) (t : Trial) → report_of_best basis (stage_after try micro_stage (stage_after try fine_stage (found t))) ≡ answered (report_of_state basis (refined try (state_of t)))
-  both_stages basis t = let r = still_found try t (shifts_of (fine_stage t.shift)) in go (stage_after try fine_stage (found t)) r.0 r.1 (found_stage fine_stage t)
-    where
-      go : (b : Best) (u : Trial) → b ≡ found u → state b ≡ after_further try fine_stage (state_of t) → report_of_best basis (stage_after try micro_stage b) ≡ answered (report_of_state basis (refined try (state_of t)))
-      go b u e s =
-          ap (λ (x : Best). report_of_best basis (stage_after try micro_stage x)) e
-          ∙ found_report basis u (shifts_of (micro_stage u.shift))
-          ∙ ap (λ (x : LeastSoFar). answered (report_of_state basis x)) (found_stage micro_stage u ∙ ap (after_further try micro_stage) (sym (ap state e) ∙ s))
-
-  finish_is : (basis : Basis) (b : Best) → Below b → report_of_best basis (stage_after try micro_stage (stage_after try fine_stage b)) ≡ finished try basis (state b)
-  unfolding lt first_best
-  finish_is basis none_yet h = refl
-  finish_is basis (found t) h = both_stages basis t ∙ go (lt t.rmse largest_finite) h
-    where
-      go : (v : Bool) → T v → answered (report_of_state basis (refined try (state_of t))) ≡ cond v (answered (report_of_state basis (refined try (state_of t)))) (refused none_usable_refusal)
-      go true h = refl
-      go false h = absurd h
-
-  -- the fit, from the three doubles after the coarse stage
-  pub fit_is : (basis : Basis) (centre : Float) → finished try basis (after_coarse try centre) ≡ fit_by_trials try basis centre
-  fit_is basis centre =
-      ap (finished try basis) (state_search try none_yet (coarse centre))
-      ∙ sym (finish_is basis (first_least try (coarse centre)) (below_least try (coarse centre)))
-      ∙ sym (fit_by_stages try basis centre)
-
   -- ---- the coarse stage, about one centre and about two
 
-  pub coarse-one : (centre : Float) → lt five (magnitude_of centre) ≡ false → after_stage try (coarse_stage centre) (state none_yet) ≡ after_coarse try centre
-  unfolding coarse updates
+  pub coarse-one : (centre : Float) → lt five (magnitude_of centre) ≡ false → after_stage try (coarse_stage centre) none_yet ≡ first_least try (coarse centre)
+  unfolding coarse
   coarse-one centre h =
       let first = shifts_of (coarse_stage centre) in
       let second = shifts_of (coarse_stage nought) in
-      sym (ap (λ (v : Bool). updates (state none_yet) (map try (first ++ cond v second []))) h
-      ∙ ap (updates (state none_yet)) (map-append try first [])
-      ∙ updates-append (state none_yet) (map try first) [])
+      sym (ap (λ (v : Bool). first_least try (first ++ cond v second [])) h ∙ ap (first_least try) (append-nil first))
 
-  pub coarse-two : (centre : Float) → lt five (magnitude_of centre) ≡ true → after_stage try (coarse_stage nought) (after_stage try (coarse_stage centre) (state none_yet)) ≡ after_coarse try centre
+  pub coarse-two : (centre : Float) → lt five (magnitude_of centre) ≡ true → after_stage try (coarse_stage nought) (after_stage try (coarse_stage centre) none_yet) ≡ first_least try (coarse centre)
   unfolding coarse
   coarse-two centre h =
       let first = shifts_of (coarse_stage centre) in
       let second = shifts_of (coarse_stage nought) in
-      sym (ap (λ (v : Bool). updates (state none_yet) (map try (first ++ cond v second []))) h
-      ∙ ap (updates (state none_yet)) (map-append try first second)
-      ∙ updates-append (state none_yet) (map try first) (map try second))
+      sym (ap (λ (v : Bool). first_least try (first ++ cond v second [])) h ∙ next_stage try first second)
+
+  -- ---- the stages after it
+
+  -- without a usable coarse shift nothing is found
+  pub none_at_all : (centre : Float) → none_yet ≡ first_least try (coarse centre) → none_yet ≡ first_least try (shifts try centre)
+  unfolding first_best
+  none_at_all centre e = sym (least_by_stages try centre ∙ ap (λ (b : Best). stage_after try micro_stage (stage_after try fine_stage b)) (sym e))
+
+  -- with one the best after the micro stage is the first least of all the shifts
+  pub all_stages : (centre : Float) (t u : Trial) → found t ≡ first_least try (coarse centre) → found u ≡ after_stage try (fine_stage t.shift) (found t)
+      → after_stage try (micro_stage u.shift) (found u) ≡ first_least try (shifts try centre)
+  all_stages centre t u e f =
+      sym (least_by_stages try centre
+      ∙ ap (λ (b : Best). stage_after try micro_stage (stage_after try fine_stage b)) (sym e)
+      ∙ ap (stage_after try micro_stage) (sym f))
+
+  -- what was found is not lost
+  pub never_lost : (stage : Stage) (t : Trial) → none_yet ≡ after_stage try stage (found t) → ⊥
+  never_lost stage t e = let r = still_found try t (shifts_of stage) in let z : ◌≡◌ {A = ℕ} 0 1 = cc (e ∙ r.1) in omega arith
 
   -- ---- and what each leaves is small
 
   module _ (named : (x : Float) → (try x).shift ≡ x) where
-    about-small : (a : ℕ) (centre : Float) (s : LeastSoFar) → a ≤ farthest_centre → Within a centre → Within farthest_coarse s.shift.0 → Within farthest_coarse (after_stage try (coarse_stage centre) s).shift.0
-    about-small a centre s l h k = stage_kept try named (a + 15) farthest_coarse (coarse_stage centre) s (omega arith) (omega arith) (omega arith) k (sub_within a 15 centre fifteen (omega arith) h (omega arith)) (omega arith)
+    about-small : (a : ℕ) (centre : Float) (b : Best) → a ≤ farthest_centre → Within a centre → BestWithin farthest_coarse b → BestWithin farthest_coarse (after_stage try (coarse_stage centre) b)
+    about-small a centre b l h k = stage_kept try named (a + 15) farthest_coarse (coarse_stage centre) b (omega arith) (omega arith) (omega arith) k (sub_within a 15 centre fifteen (omega arith) h (omega arith)) (omega arith)
 
-    pub coarse-small : (centre : Float) → Within farthest_centre centre → Within farthest_coarse (after_coarse try centre).shift.0
+    pub coarse-small : (centre : Float) → Within farthest_centre centre → BestWithin farthest_coarse (first_least try (coarse centre))
     coarse-small centre h = go (lt five (magnitude_of centre)) refl
       where
-        first : Within farthest_coarse (after_stage try (coarse_stage centre) (state none_yet)).shift.0
-        first = about-small farthest_centre centre (state none_yet) (omega arith) h (omega arith)
+        first : BestWithin farthest_coarse (after_stage try (coarse_stage centre) none_yet)
+        first = about-small farthest_centre centre none_yet (omega arith) h tt
 
-        go : (v : Bool) → lt five (magnitude_of centre) ≡ v → Within farthest_coarse (after_coarse try centre).shift.0
-        go false e = subst (λ (s : LeastSoFar). Within farthest_coarse s.shift.0) (coarse-one centre e) first
-        go true e = subst (λ (s : LeastSoFar). Within farthest_coarse s.shift.0) (coarse-two centre e) (about-small 0 nought (after_stage try (coarse_stage centre) (state none_yet)) (omega arith) (omega arith) first)
+        go : (v : Bool) → lt five (magnitude_of centre) ≡ v → BestWithin farthest_coarse (first_least try (coarse centre))
+        go false e = subst (BestWithin farthest_coarse) (coarse-one centre e) first
+        go true e = subst (BestWithin farthest_coarse) (coarse-two centre e) (about-small 0 nought (after_stage try (coarse_stage centre) none_yet) (omega arith) (omega arith) first)
 
-    pub fine_small : (s : LeastSoFar) → Within farthest_coarse s.shift.0 → Within farthest_fine (after_further try fine_stage s).shift.0
-    fine_small s h =
-        stage_kept try named (farthest_coarse + 1) farthest_fine (fine_stage s.shift.0) s (omega arith) (omega arith) (omega arith) (weaken farthest_coarse farthest_fine s.shift.0 (omega arith) h)
-        (sub_within farthest_coarse 1 s.shift.0 twentieth (omega arith) h (omega arith)) (omega arith)
+    pub fine_small : (t : Trial) → Within farthest_coarse t.shift → BestWithin farthest_fine (after_stage try (fine_stage t.shift) (found t))
+    fine_small t h =
+        stage_kept try named (farthest_coarse + 1) farthest_fine (fine_stage t.shift) (found t) (omega arith) (omega arith) (omega arith) (weaken farthest_coarse farthest_fine t.shift (omega arith) h)
+        (sub_within farthest_coarse 1 t.shift twentieth (omega arith) h (omega arith)) (omega arith)
 
-    pub micro_small : (s : LeastSoFar) → Within farthest_fine s.shift.0 → Within farthest_shift (after_further try micro_stage s).shift.0
-    micro_small s h =
-        stage_kept try named (farthest_fine + 1) farthest_shift (micro_stage s.shift.0) s (omega arith) (omega arith) (omega arith) (weaken farthest_fine farthest_shift s.shift.0 (omega arith) h)
-        (sub_within farthest_fine 1 s.shift.0 thousandth (omega arith) h (omega arith)) (omega arith)
+    micro_small : (t : Trial) → Within farthest_fine t.shift → BestWithin farthest_shift (after_stage try (micro_stage t.shift) (found t))
+    micro_small t h =
+        stage_kept try named (farthest_fine + 1) farthest_shift (micro_stage t.shift) (found t) (omega arith) (omega arith) (omega arith) (weaken farthest_fine farthest_shift t.shift (omega arith) h)
+        (sub_within farthest_fine 1 t.shift thousandth (omega arith) h (omega arith)) (omega arith)
 
-    -- so is the shift that is reported
-    pub refined-small : (s : LeastSoFar) → Within farthest_coarse s.shift.0 → Within farthest_shift (refined try s).shift.0
-    refined-small s h = micro_small (after_further try fine_stage s) (fine_small s h)
+    after_fine : (b : Best) → BestWithin farthest_fine b → BestWithin farthest_shift (stage_after try micro_stage b)
+    unfolding first_best
+    after_fine none_yet k = tt
+    after_fine (found t) k = micro_small t k
+
+    -- so is the shift after both further stages
+    pub refined-small : (b : Best) → BestWithin farthest_coarse b → BestWithin farthest_shift (stage_after try micro_stage (stage_after try fine_stage b))
+    unfolding first_best
+    refined-small none_yet k = tt
+    refined-small (found t) k = after_fine (stage_after try fine_stage (found t)) (fine_small t k)
+
+    -- and so the one that is reported
+    pub least_small : (centre : Float) → Within farthest_centre centre → BestWithin farthest_shift (first_least try (shifts try centre))
+    least_small centre h =
+        subst (BestWithin farthest_shift) (sym (least_by_stages try centre)) (refined-small (first_least try (coarse centre)) (coarse-small centre h))

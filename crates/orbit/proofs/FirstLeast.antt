@@ -22,7 +22,7 @@ use Rattle.orbit.specs.Fit.{Trial, usable, Best, none_yet, found, rmse_of, enoug
 use Rattle.orbit.specs.declared.stages.Stage.{Stage}
 
 -- a smaller RMSE compares as the search asks
-smaller_compares : Comparison smaller
+pub smaller_compares : Comparison smaller
 smaller_compares = least_first enough_of rmse_of
 
 -- ---- the winner

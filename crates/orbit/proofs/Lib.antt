@@ -7,6 +7,7 @@ pub mod FirstRange
 mod Ranges
 mod Collected
 mod Shifts
+mod Means
 mod Trials
 mod Updates
 mod Middles

@@ -13,7 +13,7 @@ use Rattle.float.specs.Signs.{magnitude_of}
 use Rattle.common.proofs.Filled.{length-list_of, get_or-list_of}
 use Rattle.common.specs.Rounded.{◌⊖◌}
 use Rattle.common.specs.Numbers.{nought, five, fifteen, tenth, twentieth, thousandth, hundred_thousandth}
-use Rattle.orbit.specs.Fit.{Trial, Best, none_yet, found, first_least, shift_at, shifts_of, coarse_stage, fine_stage, micro_stage, coarse, further, coarse_fine, shifts, Basis, report_of_best, fit_by_trials}
+use Rattle.orbit.specs.Fit.{Trial, Best, none_yet, found, first_least, shift_at, shifts_of, coarse_stage, fine_stage, micro_stage, coarse, further, coarse_fine, shifts}
 use Rattle.orbit.specs.Demand3.{trial_at, Wins, NoCoarse, Steps, Listing}
 use Rattle.orbit.proofs.FirstLeast.{After, first_least_lem, none_found, least_from, next_stage, still_found}
 use Rattle.orbit.specs.declared.stages.Stage.{Stage}
@@ -70,12 +70,12 @@ centre_six = coarse-length (fin false 3 (pos 1))
 abbrev pub stage_after : (Float → Trial) → (Float → Stage) → Best → Best
 stage_after try f b = least_from try b (further f b)
 
--- the fit is the three stages run one after the other, each from the best of those before
-pub fit_by_stages : (try : Float → Trial) (basis : Basis) (centre : Float) → fit_by_trials try basis centre ≡ report_of_best basis (stage_after try micro_stage (stage_after try fine_stage (first_least try (coarse centre))))
-unfolding fit_by_trials shifts coarse_fine
-fit_by_stages try basis centre =
+-- the search of the whole list is the three stages run one after the other, each from the best of those before
+pub least_by_stages : (try : Float → Trial) (centre : Float) → first_least try (shifts try centre) ≡ stage_after try micro_stage (stage_after try fine_stage (first_least try (coarse centre)))
+unfolding shifts coarse_fine
+least_by_stages try centre =
     let e : first_least try (coarse_fine try centre) ≡ stage_after try fine_stage (first_least try (coarse centre)) = next_stage try (coarse centre) (further fine_stage (first_least try (coarse centre))) in
-    ap (report_of_best basis) (next_stage try (coarse_fine try centre) (further micro_stage (first_least try (coarse_fine try centre))) ∙ ap (stage_after try micro_stage) e)
+    next_stage try (coarse_fine try centre) (further micro_stage (first_least try (coarse_fine try centre))) ∙ ap (stage_after try micro_stage) e
 
 -- ---- the list where a coarse shift is usable
 

@@ -9,7 +9,7 @@ use lib.IntN.{ℤ, pos, negsuc, pos-ne-negsuc}
 use lib.ListN.{length, get_or, drop, replicate}
 use lib.Ieee.{Float, nan, fin, of_int, add, div, lt, le}
 use Rattle.float.specs.Signs.{magnitude_of}
-use Rattle.checks.specs.Checks.{any, unrising, any_misplaced, not_finite}
+use Rattle.checks.specs.Checks.{unrising, any_misplaced, not_finite}
 use Rattle.checks.specs.Entries.{first_failing}
 use Rattle.common.specs.Sums.{sum_from}
 use Rattle.common.specs.Lists.{list_of}
@@ -84,11 +84,11 @@ others = record {
 
 -- the first call's areas have room for the five samples and hold zeros; the second's are longer and hold other things
 pub mixed_passes : pass_refusal others mixed_instants mixed_frequencies (replicate 5 (pos 0)) (replicate 5 nought) ≡ 0
-unfolding first_failing any unrising any_misplaced not_finite magnitude_of lt le
+unfolding first_failing unrising any_misplaced not_finite magnitude_of lt le
 mixed_passes = refl
 
 pub sorted_passes : pass_refusal others sorted_instants sorted_frequencies (replicate 8 (negsuc 6)) (replicate 6 nan) ≡ 0
-unfolding first_failing any unrising any_misplaced not_finite magnitude_of lt le
+unfolding first_failing unrising any_misplaced not_finite magnitude_of lt le
 sorted_passes = refl
 
 -- so the two calls give the same

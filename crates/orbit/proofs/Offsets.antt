@@ -1,4 +1,4 @@
--- Instants moved by whole seconds fit a signed count, since a checked instant and every offset of the search are near. Assumes nothing.
+-- How far the offsets of the search go and move an instant, and that offsets and checked instants fit a signed count. Assumes nothing.
 use mathlib.Core.Path.{◌≡◌}
 use mathlib.Core.Bool.{Bool, true, false, cond}
 use Prim.Native.Nat.{ℕ, suc, ◌+◌, ◌-◌, ◌*◌, ◌≤◌}
@@ -10,11 +10,10 @@ use lib.Signed.{mag}
 use mir.Syntax.{w64}
 use mir.Val.{SFits, to_z, of_z}
 use mir.ValLaws.{to_z-of_z}
-use Rattle.float.proofs.SignedBounds.{mag_add, mag_times, mag_nat_abs}
+use Rattle.float.proofs.SignedBounds.{mag_times, mag_nat_abs}
 use Rattle.common.specs.Time.{second}
 use Rattle.checks.specs.Limits.{farthest_instant}
 use Rattle.orbit.specs.Bounds.{farthest_offset}
-use Rattle.orbit.specs.Closest.{moved_by_seconds}
 
 abbrev pub back : ℤ → ℤ
 back z = to_z w64 (of_z w64 z)
@@ -32,16 +31,6 @@ farthest_move = suc farthest_offset * second
 
 pub seconds_mag : (z : ℤ) → nat_abs z ≤ farthest_offset → mag (z *ℤ pos second) ≤ farthest_move
 seconds_mag = product_mag farthest_offset second
-
-pub seconds_fit : (z : ℤ) → nat_abs z ≤ farthest_offset → SFits w64 (z *ℤ pos second)
-seconds_fit z h = let s = seconds_mag z h in record { sfits = omega arith }
-
-pub later-fits : (t z : ℤ) → nat_abs t ≤ farthest_instant → nat_abs z ≤ farthest_offset → SFits w64 (moved_by_seconds t z)
-later-fits t z h k =
-    let s = seconds_mag z k in
-    let m = mag_nat_abs t farthest_instant h in
-    let a = mag_add t (z *ℤ pos second) in
-    record { sfits = omega arith }
 
 either_small : (b : Bool) (x y : ℤ) (m : ℕ) → nat_abs x ≤ m → nat_abs y ≤ m → nat_abs (cond b x y) ≤ m
 either_small true x y m h k = h

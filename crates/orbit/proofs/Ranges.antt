@@ -1,21 +1,19 @@
--- One offset of the search for the closest approach, by what the propagation answered; and how far the offsets go. Assumes nothing.
+-- An offset of the search for the closest approach that has no position, and how far the offsets go. Assumes nothing.
 use mathlib.Core.Path.{◌≡◌, sym, ap, ◌∙◌}
-use mathlib.Core.Bool.{Bool, true, false, cond}
 use mathlib.Core.List.{List}
 use Prim.Native.Nat.{ℕ, ◌*◌, ◌≤◌}
 use native.Mathlib.Omega.{arith}
 use native.Mathlib.Nat.{le_trans, le_of_lt, mul-le-mul_left}
 use lib.IntN.{ℤ, pos, nat_abs}
 use lib.Ieee.{Float, lt}
-use Rattle.units.specs.declared.Position.{Position}
-use Rattle.units.specs.declared.Velocity.{Velocity}
 use Rattle.units.specs.declared.Observer.{Observer}
-use Rattle.common.specs.Outcome.{Outcome}
 use Rattle.orbit.specs.declared.closest.LeastRange.{LeastRange}
-use Rattle.orbit.specs.declared.propagation.MotionAnswer.{MotionAnswer}
-use Rattle.orbit.specs.declared.propagation.MotionAnswer.TheVariants.{At, Refused}
-use Rattle.orbit.specs.Propagation.{Motion, motion_in}
-use Rattle.orbit.specs.Closest.{squared_range, range_in, nearer, centred, minutes, seconds_about, ranged_at, ranges, by_minutes, by_seconds}
+use Rattle.orbit.specs.declared.propagation.Motion.{Motion}
+use Rattle.orbit.specs.Closest.{range_in, nearer, centred, minutes, seconds_about, ranged_at, ranges, by_minutes, by_seconds}
+use Rattle.std.specs.Prelude.{Result, Err}
+use Rattle.common.specs.Outcome.{Outcome}
+use Rattle.common.specs.Refusals.{told}
+use Rattle.common.specs.declared.refusal.Refusal.{Refusal}
 use Rattle.common.specs.Search.{better_of, first_best}
 use Rattle.common.proofs.Search.{found_among}
 use Rattle.orbit.proofs.Offsets.{offset_small, before_small}
@@ -24,30 +22,11 @@ use Rattle.orbit.specs.Bounds.{farthest_offset, reach}
 use Rattle.units.specs.declared.Seconds.{Seconds}
 use Rattle.orbit.specs.declared.closest.Offsets.{Offsets}
 
--- an offset with the squared range that its propagation answers
-abbrev at_offset : Observer → ℤ → Outcome Motion → LeastRange
-at_offset o offset q = record { range = range_in o q; offset = offset }
-
 -- no position, no range
-pub nearer-refused : (o : Observer) (r : MotionAnswer) (q : Outcome Motion) (n : ℕ) (offset : ℤ) (best : LeastRange) → motion_in r ≡ q → r ≡ Refused n → best ≡ better_of nearer best (at_offset o offset q)
+pub nearer-refused : (o : Observer) (r : Result Motion Refusal) (q : Outcome Motion) (x : Refusal) (offset : ℤ) (best : LeastRange) → told (λ m. m) r ≡ q → r ≡ Err x
+    → best ≡ better_of nearer best (record { range = range_in o q; offset = offset })
 unfolding lt
-nearer-refused o r q n offset best e er = ap (λ (x : Outcome Motion). better_of nearer best (at_offset o offset x)) (sym (ap motion_in er) ∙ e)
-
--- the place wins, or it does not
-pub nearer-won : (o : Observer) (r : MotionAnswer) (q : Outcome Motion) (p : Position) (v : Velocity) (offset z : ℤ) (best : LeastRange) (range : Float) → motion_in r ≡ q → r ≡ At p v → range ≡ squared_range o p
-    → z ≡ offset → lt range best.range ≡ true → ◌≡◌ {A = LeastRange} (record { range = range; offset = z }) (better_of nearer best (at_offset o offset q))
-nearer-won o r q p v offset z best range e er ee ez w =
-    rw (ez, ee)
-    (ap (λ (b : Bool). cond b (record { range = squared_range o p; offset = offset }) best) (sym (ap (λ (x : Float). lt x best.range) (sym ee) ∙ w))
-    ∙ ap (λ (x : Outcome Motion). better_of nearer best (at_offset o offset x)) (sym (ap motion_in er) ∙ e))
-
-pub nearer_lost : (o : Observer) (r : MotionAnswer) (q : Outcome Motion) (p : Position) (v : Velocity) (offset : ℤ) (best : LeastRange) (range : Float) → motion_in r ≡ q → r ≡ At p v → range ≡ squared_range o p
-    → lt range best.range ≡ false → best ≡ better_of nearer best (at_offset o offset q)
-nearer_lost o r q p v offset best range e er ee w =
-    ap (λ (b : Bool). cond b (record { range = squared_range o p; offset = offset }) best) (sym (ap (λ (x : Float). lt x best.range) (sym ee) ∙ w))
-    ∙ ap (λ (x : Outcome Motion). better_of nearer best (at_offset o offset x)) (sym (ap motion_in er) ∙ e)
-
--- ---- the offsets that the stages end with
+nearer-refused o r q x offset best e er = ap (λ (q : Outcome Motion). better_of nearer best (record { range = range_in o q; offset = offset })) (sym (ap (told {B = Motion} (λ m. m)) er) ∙ e)
 
 module _ (tolerance : Seconds) (instants : List ℤ) (positions : List Float) (o : Observer) (around : ℤ) where
   -- the nearest's offset is the start's or one of those tried

@@ -1,9 +1,9 @@
--- The last coordinate at or before an instant: in a list that rises it is the one that halving ends at. Assumes nothing.
+-- The last coordinate at or before an instant: in a list that rises it is the one before the first that is past it. Assumes nothing.
 use mathlib.Core.Path.{◌≡◌, refl, sym, ap, ◌∙◌, subst}
 use mathlib.Core.Logic.{◌⊎◌, inl, inr}
 use mathlib.Core.Bool.{Bool, true, false, not, cond, true≢false}
 use mathlib.Core.List.{List, [], ◌∷◌}
-use Prim.Native.Nat.{ℕ, zero, suc, ◌+◌, ◌-◌, ◌/◌, ◌≤◌, ◌<◌}
+use Prim.Native.Nat.{ℕ, zero, suc, ◌+◌, ◌-◌, ◌≤◌, ◌<◌}
 use native.Mathlib.Nat.{eq-or-lt_of_le, add-zero, le_of_lt}
 use native.Mathlib.Omega.{arith}
 use lib.Dec.{T, ltb→lt, le→leb}
@@ -11,6 +11,8 @@ use lib.IntN.{ℤ, pos, negsuc}
 use lib.Signed.{lt_z, le_z, ◌<ℤ◌, lt_z_yes, <ℤ-≤ℤ_trans}
 use lib.ListN.{length, get_or}
 use borrow.Author.Tests.{not-false}
+use Rattle.std.specs.List.Sorted.{IsPartitionPoint}
+use Rattle.std.proofs.lemmas.List.{get_or_default}
 use Rattle.checks.specs.Checks.{unrising}
 use Rattle.checks.proofs.First.{neither}
 use Rattle.samples.proofs.Seconds.{<ℤ-trans}
@@ -98,7 +100,7 @@ found_at k found (x ∷ xs) t (suc r) u p h =
     found_at (k + 1) (cond (le_z x t) k found) xs t r (omega arith) p (λ j v w. h (suc j) (omega arith) (omega arith)) ∙ e
 
 -- r is the last at or before t, or 0 where none is
-pub last_is : (ts : List ℤ) (t : ℤ) (r : ℕ) → r < length ts → (r ≡ 0) ⊎ (le_z (at ts r) t ≡ true) → ((j : ℕ) → r < j → j < length ts → le_z (at ts j) t ≡ false) → r ≡ last_before ts t
+last_is : (ts : List ℤ) (t : ℤ) (r : ℕ) → r < length ts → (r ≡ 0) ⊎ (le_z (at ts r) t ≡ true) → ((j : ℕ) → r < j → j < length ts → le_z (at ts j) t ≡ false) → r ≡ last_before ts t
 last_is ts t r u (inr p) h = let e : r ≡ 0 + r = omega arith in e ∙ sym (found_at 0 0 ts t r u p h)
 last_is ts t r u (inl e) h = go (le_z (at ts r) t) refl
   where
@@ -113,30 +115,18 @@ last_is ts t r u (inl e) h = go (le_z (at ts r) t) refl
         by j v (inl i) = subst (λ (n : ℕ). le_z (at ts n) t ≡ false) i q
         by j v (inr l) = h j l v
 
--- one halving: the part from base, of the given size, holds the last at or before t
-pub record Halved (ts : List ℤ) (t : ℤ) (base size : ℕ) : Type 0 where
-  pub some : 0 < size
-  pub fits : base + size ≤ length ts
-  pub before : (base ≡ 0) ⊎ (le_z (at ts base) t ≡ true)
-  pub after : (j : ℕ) → base + size ≤ j → j < length ts → le_z (at ts j) t ≡ false
+-- those at or before t lie in front of those past it
+pub parted : (ts : List ℤ) (t : ℤ) → unrising ts ≡ false → (i j : ℕ) (d : ℤ) → i ≤ j → j < length ts → le_z (get_or ts j d) t ≡ true → le_z (get_or ts i d) t ≡ true
+parted ts t h i j d u v p = go (le_z (at ts i) t) refl
+  where
+    go : (b : Bool) → le_z (at ts i) t ≡ b → le_z (get_or ts i d) t ≡ true
+    go true q = subst (λ (x : ℤ). le_z x t ≡ true) (get_or_default ts i (pos 0) d (omega arith)) q
+    go false q = absurd (true≢false (sym p ∙ ap (λ (x : ℤ). le_z x t) (get_or_default ts j d (pos 0) v) ∙ past ts t i h q j u v))
 
-pub halved_up : (ts : List ℤ) (t : ℤ) (base size : ℕ) → 1 < size → le_z (at ts (base + size / 2)) t ≡ true → Halved ts t base size → Halved ts t (base + size / 2) (size - size / 2)
-halved_up ts t base size l p h =
-    record {
-      some = omega arith;
-      fits = omega (arith, h.fits);
-      before = inr p;
-      after = λ j u v. h.after j (omega arith) v;
-    }
-
-pub halved_down : (ts : List ℤ) (t : ℤ) (base size : ℕ) → unrising ts ≡ false → 1 < size → le_z (at ts (base + size / 2)) t ≡ false → Halved ts t base size → Halved ts t base (size - size / 2)
-halved_down ts t base size r l p h =
-    record {
-      some = omega arith;
-      fits = omega (arith, h.fits);
-      before = h.before;
-      after = λ j u v. past ts t (base + size / 2) r p j (omega arith) v;
-    }
-
-pub halved_end : (ts : List ℤ) (t : ℤ) (base size : ℕ) → size ≤ 1 → Halved ts t base size → base ≡ last_before ts t
-halved_end ts t base size l h = last_is ts t base (omega (arith, h.some, h.fits)) h.before (λ j u v. h.after j (omega (arith, h.some)) v)
+-- the last of them is one before the first that is past it
+pub point_is : (ts : List ℤ) (t : ℤ) (n : ℕ) → 0 < length ts → n ≤ length ts → IsPartitionPoint (λ x. le_z x t ≡ true) (λ x. le_z x t ≡ false) ts n → n - 1 ≡ last_before ts t
+point_is ts t n some fits point = last_is ts t (n - 1) (omega arith) (front n point.0) (λ j u v. point.1 j (pos 0) (omega arith) v)
+  where
+    front : (n : ℕ) → ((k : ℕ) (d : ℤ) → 0 ≤ k → k < n → le_z (get_or ts k d) t ≡ true) → (n - 1 ≡ 0) ⊎ (le_z (at ts (n - 1)) t ≡ true)
+    front zero f = inl refl
+    front (suc m) f = inr (f (suc m - 1) (pos 0) (omega arith) (omega arith))

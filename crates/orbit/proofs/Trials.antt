@@ -1,30 +1,19 @@
--- The trial of a shift by its residuals, and what it leaves of the least so far: by whether enough residuals are left, and whether their RMSE is
--- smaller. Assumes nothing.
-use mathlib.Core.Path.{◌≡◌, refl, sym, ap, ap₂, ◌∙◌}
+-- The trial of a shift by its residuals: with enough of them it is the candidate that the code makes. And a candidate that has too few never wins.
+-- Assumes nothing.
+use mathlib.Core.Path.{◌≡◌, refl, sym, ap}
 use mathlib.Core.Bool.{Bool, true, false, cond, ◌&&◌}
 use mathlib.Core.List.{List, map}
 use Prim.Native.Nat.{ℕ, ◌/◌, ◌≤◌, ◌<◌}
-use native.Mathlib.Omega.{arith}
 use borrow.Author.Tests.{lt-ltb, le-ltb}
-use lib.Dec.{ltb}
-use lib.IntN.{pos}
+use native.Mathlib.Omega.{arith}
 use lib.ListN.{length, take, length-take}
 use lib.Ieee.{Float, binary64, lt}
+use Rattle.common.specs.Search.{better_of}
 use Rattle.float.specs.Root.{root}
-use Rattle.float.specs.Conversions.{nearest_of}
 use Rattle.samples.specs.Means.{Sample}
-use Rattle.orbit.specs.declared.stages.LeastSoFar.{LeastSoFar}
-use Rattle.orbit.specs.Fit.{trial}
+use Rattle.orbit.specs.Fit.{Trial, trial, Best, none_yet, found, rmse_of, smaller}
+use Rattle.orbit.specs.Fitting.{candidate_of}
 use Rattle.orbit.specs.Residuals.{Residual, residuals, mean_over, squared_deviation}
-use Rattle.common.specs.Numbers.{minus_zero}
-use Rattle.orbit.specs.Stages.{state_of, update}
-use Rattle.common.specs.Sums.{sum_from}
-use Rattle.common.specs.Rounded.{◌⊘◌}
-
--- the mean of the first n values, from their sum
-pub mean_is : (ys : List Float) (n : ℕ) (s : Float) → length ys ≡ n → s ≡ sum_from minus_zero ys → s ⊘ nearest_of (pos n) ≡ mean_over ys
-unfolding mean_over
-mean_is ys n s e h = ap₂ (λ (x : Float) (k : ℕ). x ⊘ nearest_of (pos k)) h (sym e)
 
 pub length_front : {A : Type 0} (l : List A) (n : ℕ) → n ≤ length l → length (take n l) ≡ n
 length_front l n h = simp length-take (omega arith)
@@ -35,34 +24,27 @@ unfolding trial
 shift_is residual S shift = refl
 
 module _ (residual : Float → Sample → Residual) (S : List Sample) (shift : Float) (ys : List Float) (are : ys ≡ residuals (residual shift) S) where
-  enough_is : (trial residual S shift).enough ≡ ltb (length S / 2) (length ys)
-  unfolding trial
-  enough_is = ap (λ (l : List Float). ltb (length S / 2) (length l)) (sym are)
-
-  frequency_offset_is : (trial residual S shift).frequency_offset ≡ mean_over ys
-  unfolding trial
-  frequency_offset_is = ap mean_over (sym are)
-
-  rmse_is : (trial residual S shift).rmse ≡ root binary64 (mean_over (map (squared_deviation (mean_over ys)) ys))
-  unfolding trial
-  rmse_is = ap (λ (l : List Float). root binary64 (mean_over (map (squared_deviation (mean_over l)) l))) (sym are)
-
   -- too few are left
-  pub too_few : (best : LeastSoFar) → length ys ≤ length S / 2 → best ≡ update best (trial residual S shift)
-  too_few best h = ap (λ (b : Bool). cond (b && lt (trial residual S shift).rmse best.rmse.0) (state_of (trial residual S shift)) best) (sym (enough_is ∙ le-ltb (length S / 2) (length ys) h))
+  pub too_few : length ys ≤ length S / 2 → none_yet ≡ candidate_of (trial residual S shift)
+  unfolding trial
+  too_few h =
+      let e = le-ltb (length S / 2) (length ys) h in
+      rw (← are, e)
 
-  by_rmse_lem : (best : LeastSoFar) (rmse : Float) (b : Bool) → length S / 2 < length ys → rmse ≡ (trial residual S shift).rmse → lt rmse best.rmse.0 ≡ b → cond b (state_of (trial residual S shift)) best ≡ update best (trial residual S shift)
-  by_rmse_lem best rmse b h e t =
-      ap (λ (x : Bool). cond x (state_of (trial residual S shift)) best) (sym t ∙ ap (λ (x : Float). lt x best.rmse.0) e)
-      ∙ ap (λ (x : Bool). cond (x && lt (trial residual S shift).rmse best.rmse.0) (state_of (trial residual S shift)) best) (sym (enough_is ∙ lt-ltb (length S / 2) (length ys) h))
+  -- enough are left
+  pub enough : (frequency_offset rmse : Float) → length S / 2 < length ys
+      → frequency_offset ≡ mean_over ys
+      → rmse ≡ root binary64 (mean_over (map (squared_deviation frequency_offset) ys))
+      → found (record { shift = shift; frequency_offset = frequency_offset; rmse = rmse; enough = true }) ≡ candidate_of (trial residual S shift)
+  unfolding trial
+  enough frequency_offset rmse h m r =
+      let e = lt-ltb (length S / 2) (length ys) h in
+      rw (← are, e, r, m)
 
-  module _ (best : LeastSoFar) (frequency_offset rmse : Float) (enough : length S / 2 < length ys) (eo : frequency_offset ≡ mean_over ys) (er : rmse ≡ root binary64 (mean_over (map (squared_deviation (mean_over ys)) ys))) where
-    pub won : lt rmse best.rmse.0 ≡ true → ◌≡◌ {A = LeastSoFar} (record { rmse = record { 0 = rmse }; shift = record { 0 = shift }; frequency_offset = record { 0 = frequency_offset } }) (update best (trial residual S shift))
-    won t = same (er ∙ sym rmse_is) (sym (shift_is residual S shift)) (eo ∙ sym frequency_offset_is) ∙ by_rmse_lem best rmse true enough (er ∙ sym rmse_is) t
-      where
-        same : {r s o r' s' o' : Float} → r ≡ r' → s ≡ s' → o ≡ o'
-            → ◌≡◌ {A = LeastSoFar} (record { rmse = record { 0 = r }; shift = record { 0 = s }; frequency_offset = record { 0 = o } }) (record { rmse = record { 0 = r' }; shift = record { 0 = s' }; frequency_offset = record { 0 = o' } })
-        same p q t = rw (p, q, t)
-
-    pub lost : lt rmse best.rmse.0 ≡ false → best ≡ update best (trial residual S shift)
-    lost t = by_rmse_lem best rmse false enough (er ∙ sym rmse_is) t
+-- a candidate takes the place of the best exactly where its trial does
+pub by_candidate : (best : Best) (t : Trial) → better_of smaller best (candidate_of t) ≡ better_of smaller best (found t)
+by_candidate best t = go t.enough refl
+  where
+    go : (b : Bool) → t.enough ≡ b → better_of smaller best (cond b (found t) none_yet) ≡ better_of smaller best (found t)
+    go true e = refl
+    go false e = sym (ap (λ (x : Bool). cond (x && lt t.rmse (rmse_of best)) (found t) best) e)

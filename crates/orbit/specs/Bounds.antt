@@ -1,7 +1,6 @@
--- Inner: how far the search goes, so that every number fits its machine number, and what the inner functions of a fit rely on.
-use Rattle.std.specs.Prelude.{ℕ, ◌+◌, ◌*◌, ◌≤◌, List, ℤ, nat_abs, length, Float}
+-- Inner: how far the search goes, so that every number fits its machine number.
+use Rattle.std.specs.Prelude.{ℕ, ◌+◌, ◌*◌, ◌≤◌, nat_abs}
 use Rattle.float.specs.Bounds.{Within}
-use Rattle.checks.specs.Checked.{Table, Samples}
 use Rattle.orbit.specs.declared.closest.Offsets.{Offsets}
 use Rattle.orbit.specs.declared.stages.Stage.{Stage}
 
@@ -46,9 +45,3 @@ pub record SmallStage (s : Stage) : Type 0 where
   pub start : Within farthest_start s.start.0
   pub increment : Within 1 s.increment.0
   pub steps : s.steps ≤ most_steps
-
--- the five areas of a fit: a table that passed its checks, samples that passed theirs, and room for a residual of each
-pub record FitAreas (instants : List ℤ) (positions : List Float) (samples : List ℤ) (frequencies values : List Float) : Type 0 where
-  pub table : Table instants positions
-  pub sampled : Samples samples frequencies
-  pub room : length samples ≤ length values

@@ -14,11 +14,11 @@ use Rattle.common.specs.Outcome.{Outcome, refused, answered, outcome}
 use Rattle.checks.specs.Entries.{first_failing, closest_checks}
 use Rattle.orbit.specs.declared.closest.Offsets.{Offsets}
 use Rattle.orbit.specs.declared.closest.LeastRange.{LeastRange}
-use Rattle.orbit.specs.declared.closest.ClosestApproach.{ClosestApproach}
-use Rattle.orbit.specs.declared.closest.ClosestApproach.TheVariants.{At, Refused}
+use Rattle.orbit.specs.declared.place.Located.{Located}
+use Rattle.orbit.specs.declared.propagation.Motion.{Motion}
 use Rattle.orbit.specs.Window.{even_tolerance}
-use Rattle.orbit.specs.Place.{Located, located}
-use Rattle.orbit.specs.Propagation.{Motion, propagated}
+use Rattle.orbit.specs.Place.{located}
+use Rattle.orbit.specs.Propagation.{propagated}
 
 -- a number times itself
 abbrev pub squared : Float → Float
@@ -89,8 +89,3 @@ abbrev pub find_pca_time : List ℤ → List Float → Observer → ℤ → Outc
 find_pca_time instants positions o t =
     let found = closest_instant even_tolerance instants positions o t in
     outcome (first_failing (closest_checks instants positions o t)) (located instants found found)
-
--- the paper's number and values of each case of the answer
-abbrev pub closest_in : ClosestApproach → Outcome (Located ℤ)
-closest_in (At t place) = answered (record { answer = t.0; place = place })
-closest_in (Refused n) = refused n

@@ -18,7 +18,7 @@ use Rattle.samples.specs.Approach.{gap_of, Falls, FirstFall}
 use Rattle.orbit.specs.declared.fit.Report.{Report}
 use Rattle.orbit.specs.declared.closest.LeastRange.{LeastRange}
 use Rattle.orbit.specs.declared.closest.Offsets.{Offsets}
-use Rattle.orbit.specs.Propagation.{Motion}
+use Rattle.orbit.specs.declared.propagation.Motion.{Motion}
 use Rattle.orbit.specs.Closest.{moved_by_seconds, nearer, centred, minutes, seconds_about, ranged_at, by_minutes, by_seconds}
 use Rattle.orbit.specs.Fit.{Trial, trial, usable, shifts_of, coarse_stage, fine_stage, micro_stage, coarse, coarse_fine, shifts, none_usable_refusal}
 use Rattle.orbit.specs.Fit.{Basis, basis_of, report_of_trial, predicted_by, centre_of}

@@ -16,8 +16,6 @@ use Rattle.samples.specs.Approach.{gap_of}
 use Rattle.orbit.specs.declared.stages.Stage.{Stage}
 use Rattle.orbit.specs.declared.fit.Measured.{Measured}
 use Rattle.orbit.specs.declared.fit.Report.{Report}
-use Rattle.orbit.specs.declared.fit.FitAnswer.{FitAnswer}
-use Rattle.orbit.specs.declared.fit.FitAnswer.TheVariants.{Reported, Refused}
 use Rattle.orbit.specs.Closest.{closest_instant}
 use Rattle.orbit.specs.Residuals.{Inputs, Residual, residual_of, residuals, mean_over, squared_deviation, outside_count}
 
@@ -176,8 +174,3 @@ abbrev pub fit_satellite : Inputs → List ℤ → List Float → ℤ → Outcom
 fit_satellite i ts fs measured =
     unless_refused (first_failing (fit_checks i.instants i.positions ts fs i.settings.observer i.settings.f0 measured))
     (fit_of i (recording ts fs) (given measured))
-
--- the paper's number and values of each case of the answer
-abbrev pub fit_in : FitAnswer → Outcome Report
-fit_in (Reported r) = answered r
-fit_in (Refused n) = refused n

@@ -1,5 +1,5 @@
 -- The definitions of orbit: the place of an instant, window and model, propagation, closest approach, residuals, fit, pass, and what demand 3 says;
--- for inner functions, bounds and stages; and cases by computation.
+-- for inner functions, bounds and what a fit's search holds; and cases by computation.
 pub mod Place
 pub mod Window
 pub mod Propagation
@@ -8,6 +8,6 @@ pub mod Residuals
 pub mod Fit
 pub mod Passes
 pub mod Bounds
-pub mod Stages
+pub mod Fitting
 pub mod Demand3
 pub mod Cases

@@ -3,6 +3,7 @@ use Rattle.std.specs.Prelude.{◌-◌, Bool, true, false, cond, List, ℤ, pos, 
 use Rattle.std.specs.Int.Signed.{lt_z}
 use Rattle.orbit.specs.declared.place.Place.{Place}
 use Rattle.orbit.specs.declared.place.Place.TheVariants.{Before, Within, After}
+use Rattle.orbit.specs.declared.place.Located.{Located}
 
 -- the instant of a table's first coordinate
 abbrev pub first_instant : List ℤ → ℤ
@@ -22,11 +23,10 @@ is_outside Before = true
 is_outside Within = false
 is_outside After = true
 
--- an answer, and the place of the instant that it is about
-pub record Located (A : Type 0) : Type 0 where
-  pub answer : A
-  pub place : Place
-
 -- an answer about an instant with that instant's place
 abbrev pub located : {A : Type 0} → List ℤ → ℤ → A → Located A
 located instants t a = record { answer = a; place = place_of instants t }
+
+-- what is made of a located answer, as its unit's number; its place stays
+abbrev pub with_answer : {A B : Type 0} → (A → B) → Located A → Located B
+with_answer f x = record { answer = f x.answer; place = x.place }

@@ -5,21 +5,14 @@ use Rattle.chebyshev.specs.Recurrence.{rounded, value_of, slope_of}
 use Rattle.units.specs.declared.Seconds.{Seconds}
 use Rattle.units.specs.declared.Position.{Position}
 use Rattle.units.specs.declared.Velocity.{Velocity}
-use Rattle.common.specs.Outcome.{Outcome, refused, answered, mapped, outcome, unless_refused}
+use Rattle.common.specs.Outcome.{Outcome, mapped, outcome, unless_refused}
 use Rattle.checks.specs.Entries.{first_failing, evaluation_checks, propagation_checks}
 use Rattle.orbit.specs.declared.window.ChebyshevOrbit.{ChebyshevOrbit}
-use Rattle.orbit.specs.declared.propagation.MotionAnswer.{MotionAnswer}
-use Rattle.orbit.specs.declared.propagation.MotionAnswer.TheVariants as motion
-use Rattle.orbit.specs.declared.propagation.Propagation.{Propagation}
-use Rattle.orbit.specs.declared.propagation.Propagation.TheVariants as propagation
-use Rattle.orbit.specs.Place.{Located, located}
+use Rattle.orbit.specs.declared.propagation.Motion.{Motion}
+use Rattle.orbit.specs.declared.place.Located.{Located}
+use Rattle.orbit.specs.Place.{located}
 use Rattle.orbit.specs.Window.{seconds_of, tau_of, even_tolerance, model_about}
 use Rattle.common.specs.Numbers.{two}
-
--- where a satellite is and how it moves
-pub record Motion : Type 0 where
-  pub position : Position
-  pub velocity : Velocity
 
 -- τ of an instant in a model's window
 abbrev pub tau_at : ChebyshevOrbit → ℤ → Float
@@ -61,13 +54,3 @@ evaluate m t = outcome (first_failing (evaluation_checks t)) (motion_at m t)
 abbrev pub propagate_ecef : List ℤ → List Float → ℤ → Outcome (Located Motion)
 propagate_ecef instants positions t =
     unless_refused (first_failing (propagation_checks instants positions t)) (mapped (located instants t) (propagated even_tolerance instants positions t))
-
--- the paper's number and values of each case of `evaluate`'s answer, and of the propagation inside fit and closest approach
-abbrev pub motion_in : MotionAnswer → Outcome Motion
-motion_in (motion.At p v) = answered (record { position = p; velocity = v })
-motion_in (motion.Refused n) = refused n
-
--- and of `propagate_ecef`'s
-abbrev pub propagation_in : Propagation → Outcome (Located Motion)
-propagation_in (propagation.At p v place) = answered (record { answer = record { position = p; velocity = v }; place = place })
-propagation_in (propagation.Refused n) = refused n

@@ -14,12 +14,18 @@ use Rattle.units.specs.declared.Hertz.{Hertz}
 use Rattle.units.specs.declared.Observer.{Observer}
 use Rattle.common.specs.Outcome.{Outcome, refused, answered}
 use Rattle.samples.specs.Means.{Sample}
-use Rattle.orbit.specs.declared.settings.Settings.{Settings}
 use Rattle.orbit.specs.Place.{place_of, is_outside}
-use Rattle.orbit.specs.Propagation.{Motion, propagated}
+use Rattle.orbit.specs.declared.propagation.Motion.{Motion}
+use Rattle.orbit.specs.Propagation.{propagated}
 use Rattle.orbit.specs.Closest.{squared, squared_range}
 
--- observer, centre frequency and tolerance of an even window by their parts
+-- where the receiver stands, the centre frequency, and how far a gap of an even window may be off the mean gap
+pub record Settings : Type 0 where
+  pub observer : Observer
+  pub f0 : Hertz
+  pub tolerance : Seconds
+
+-- these by their parts
 abbrev pub settings_of : Observer → Hertz → Seconds → Settings
 settings_of observer f0 tolerance = record { observer = observer; f0 = f0; tolerance = tolerance }
 

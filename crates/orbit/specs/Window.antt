@@ -1,11 +1,11 @@
 -- `get_chebyshev_model`: the window of ten coordinates about an instant, and its Chebyshev model. Instants are nanoseconds, times seconds,
 -- positions metres, three doubles each.
-use Rattle.std.specs.Prelude.{ℕ, ◌+◌, ◌-◌, ◌*◌, Bool, cond, List, [], ◌∷◌, ltb, leb, ℤ, pos, length, get_or, replicate, Float}
+use Rattle.std.specs.Prelude.{ℕ, ◌+◌, ◌-◌, ◌*◌, Bool, cond, List, [], ◌∷◌, ltb, leb, ℤ, pos, length, get_or, Float}
 use Rattle.std.specs.Int.Signed.{le_z}
 use Rattle.std.specs.Float.{nan}
 use Rattle.std.specs.Float.Ieee.{lt}
 use Rattle.common.specs.Rounded.{◌⊖◌, ◌⊗◌, ◌⊘◌}
-use Rattle.common.specs.Numbers.{nought, one, two, nine, billionth}
+use Rattle.common.specs.Numbers.{one, two, nine, billionth}
 use Rattle.float.specs.Conversions.{nearest_of}
 use Rattle.float.specs.Signs.{magnitude_of}
 use Rattle.common.specs.Lists.{list_of}
@@ -14,12 +14,11 @@ use Rattle.chebyshev.specs.Recurrence.{rounded, polynomials, terms}
 use Rattle.chebyshev.specs.Inverse.{Row, Matrix, inverted}
 use Rattle.chebyshev.specs.Ideal.{ideal_matrix}
 use Rattle.chebyshev.specs.Coefficients.{coefficients_by}
-use Rattle.common.specs.Outcome.{Outcome, refused, answered, mapped, unless_refused}
+use Rattle.common.specs.Outcome.{Outcome, mapped, unless_refused}
 use Rattle.checks.specs.Checks.{any}
 use Rattle.checks.specs.Entries.{first_failing, propagation_checks}
 use Rattle.checks.specs.Limits.{axes}
 use Rattle.orbit.specs.declared.window.ChebyshevOrbit.{ChebyshevOrbit}
-use Rattle.orbit.specs.declared.window.Model.{Model}
 
 -- "idx is the last coordinate at or before the instant, or 0": the index k of the first, and the last found so far
 unfoldable pub last_from : ℕ → ℕ → List ℤ → ℤ → ℕ
@@ -114,18 +113,3 @@ model_about tolerance instants positions t = model_at tolerance instants positio
 abbrev pub get_chebyshev_model : List ℤ → List Float → ℤ → Outcome ChebyshevOrbit
 get_chebyshev_model instants positions t =
     unless_refused (first_failing (propagation_checks instants positions t)) (model_about even_tolerance instants positions t)
-
--- the paper's number and values of the answer: zeros stand beside a refusal
-abbrev pub blank_model : ChebyshevOrbit
-blank_model = record {
-  t0 = record { 0 = nought };
-  t9 = record { 0 = nought };
-  cx = replicate terms nought;
-  cy = replicate terms nought;
-  cz = replicate terms nought;
-}
-
--- the number beside the model
-abbrev pub model_answer : Outcome ChebyshevOrbit → Model
-model_answer (refused n) = record { refusal = n; orbit = blank_model }
-model_answer (answered m) = record { refusal = 0; orbit = m }

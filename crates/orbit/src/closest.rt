@@ -1,24 +1,19 @@
 // The closest approach of a satellite to the observer.
-ghost use Rattle.std.specs.Prelude.{◌≡◌, ◌+◌, ◌*◌, ◌≤◌, nat_abs};
+ghost use Rattle.std.specs.Prelude.{◌≡◌, ◌+◌, ◌*◌, ◌≤◌, nat_abs, ℤ};
+ghost use Rattle.common.specs.Refusals.{told};
 ghost use Rattle.common.specs.Search.{better_of, first_best};
 ghost use Rattle.checks.specs.Limits.{farthest_instant};
-ghost use Rattle.checks.specs.Checked.{Table};
 ghost use Rattle.orbit.specs.Bounds.{reach, farthest_offset};
-ghost use Rattle.orbit.specs.Closest.{squared_range, moved_by_seconds, nearer, offset_at, ranged, ranges, closest_instant, find_pca_time, closest_in};
+ghost use Rattle.orbit.specs.Place.{with_answer};
+ghost use Rattle.orbit.specs.Closest.{squared_range, moved_by_seconds, nearer, offset_at, ranged, ranges, closest_instant, find_pca_time};
 
-use crate::place::{Place, place_of};
-use crate::propagation::{MotionAnswer, propagate_at};
-use crate::settings::EVEN_TOLERANCE;
-use checks::refuse_closest;
+use crate::place::Located;
+use crate::search::Search;
+use crate::tabulated::TabulatedOrbit;
+use checks::{OrbitTable, refuse_closest};
+use common::Refusal;
 use float::LARGEST_FINITE;
-use units::{Nanoseconds, Observer, Position, SECOND, Seconds};
-
-// The instant of the closest approach and where it lies in respect of the table, or the refusal (1, 4, 5, 6).
-#[derive(Clone, Copy)]
-pub enum ClosestApproach {
-    At(Nanoseconds, Place),
-    Refused(u8),
-}
+use units::{Nanoseconds, Observer, Position, SECOND};
 
 // The offsets of a stage, in whole seconds: `count` of them from `first` on, each `step` after the last.
 #[derive(Clone, Copy)]
@@ -65,94 +60,81 @@ fn moved_by_seconds(t: Nanoseconds, offset: i64) -> Nanoseconds
     Nanoseconds(t.0 + offset * SECOND)
 }
 
-// The offset k steps after the first.
-fn offset_of(offsets: Offsets, k: u64) -> i64
-    requires { nat_abs offsets.first + offsets.step * k ≤ farthest_offset }
-    ensures { result ≡ offset_at offsets k }
-{
-    offsets.first + ((offsets.step * k) as i64)
-}
-
-// The nearer of the best so far and the place at an offset: the offset wins only by a smaller squared range.
-fn nearer_at(
-    instants: &[i64],
-    positions: &[f64],
-    observer: Observer,
-    around: Nanoseconds,
-    tolerance: Seconds,
-    offset: i64,
-    best: LeastRange,
-) -> LeastRange
-    requires { Table instants.now positions.now × (nat_abs around.0 ≤ farthest_instant) × (nat_abs offset ≤ farthest_offset) }
-    ensures { result ≡ better_of nearer best (ranged tolerance instants.now positions.now observer around.0 offset) }
-{
-    let t = moved_by_seconds(around, offset);
-    let MotionAnswer::At(p, _) = propagate_at(instants, positions, t, tolerance) else {
-        return best;
-    };
-    let range = squared_range(p, observer);
-    if range < best.range {
-        return LeastRange { range, offset };
+impl Offsets {
+    // The offset k steps after the first.
+    fn offset_at(&self, k: u64) -> i64
+        requires { nat_abs self.now.first + self.now.step * k ≤ farthest_offset }
+        ensures { result ≡ offset_at self.now k }
+    {
+        self.first + ((self.step * k) as i64)
     }
-    best
 }
 
-// The first nearest of the start and the offsets of a stage.
-fn seek_least_range(
-    instants: &[i64],
-    positions: &[f64],
-    observer: Observer,
-    around: Nanoseconds,
-    tolerance: Seconds,
-    offsets: Offsets,
-    start: LeastRange,
-) -> LeastRange
-    requires { Table instants.now positions.now × (nat_abs around.0 ≤ farthest_instant) × (reach offsets ≤ farthest_offset) }
-    ensures { result ≡ first_best nearer start (ranges tolerance instants.now positions.now observer around.0 offsets) }
-{
-    let mut best = start;
-    for k in 0..offsets.count {
-        let offset = offset_of(offsets, k);
-        let next = nearer_at(
-            instants, positions, observer, around, tolerance, offset, best,
-        );
-        best = next;
+impl Search<'_> {
+    // The nearer of the best so far and the place at an offset: the offset wins only by a smaller squared range.
+    fn nearer_at(&self, offset: i64, best: LeastRange) -> LeastRange
+        requires { nat_abs offset ≤ farthest_offset }
+        ensures { result ≡ better_of nearer best
+            (ranged self.now.orbit.tolerance self.now.orbit.table.instants.now self.now.orbit.table.positions.now
+            self.now.observer self.now.around.0 offset) }
+    {
+        let Ok(m) = self.orbit.propagate(moved_by_seconds(self.around, offset)) else {
+            return best;
+        };
+        let range = squared_range(m.position, self.observer);
+        if range < best.range {
+            LeastRange { range, offset }
+        } else {
+            best
+        }
     }
-    best
+
+    // The first nearest of the start and the offsets of a stage.
+    fn seek_least_range(&self, offsets: Offsets, start: LeastRange) -> LeastRange
+        requires { reach offsets ≤ farthest_offset }
+        ensures { result ≡ first_best nearer start
+            (ranges self.now.orbit.tolerance self.now.orbit.table.instants.now self.now.orbit.table.positions.now
+            self.now.observer self.now.around.0 offsets) }
+    {
+        let mut best = start;
+        // a fold's closure would owe the offset's bound at each call
+        for k in 0..offsets.count {
+            best = self.nearer_at(offsets.offset_at(k), best);
+        }
+        best
+    }
 }
 
-// The instant of the closest approach about an instant, by a table that passed its checks: by minutes, then by seconds.
-pub(crate) fn closest_at(
-    instants: &[i64],
-    positions: &[f64],
-    observer: Observer,
-    around: Nanoseconds,
-    tolerance: Seconds,
-) -> Nanoseconds
-    requires { Table instants.now positions.now × (nat_abs around.0 ≤ farthest_instant) }
-    ensures { result.0 ≡ closest_instant tolerance instants.now positions.now observer around.0 }
-{
-    let unranged = LeastRange {
-        range: LARGEST_FINITE,
-        offset: 0,
-    };
-    let by_minutes = seek_least_range(
-        instants, positions, observer, around, tolerance, MINUTES, unranged,
-    );
-    let centre = by_minutes.offset;
-    let seconds = Offsets {
-        first: centre - SECONDS_BEFORE,
-        step: 1,
-        count: SECONDS_COUNT,
-    };
-    let centred = LeastRange {
-        range: LARGEST_FINITE,
-        offset: centre,
-    };
-    let by_seconds = seek_least_range(
-        instants, positions, observer, around, tolerance, seconds, centred,
-    );
-    moved_by_seconds(around, by_seconds.offset)
+impl TabulatedOrbit<'_> {
+    // The instant of the closest approach about an instant: by minutes, then by seconds.
+    pub(crate) fn closest(&self, observer: Observer, around: Nanoseconds) -> Nanoseconds
+        requires { nat_abs around.0 ≤ farthest_instant }
+        ensures { result.0 ≡ closest_instant self.now.tolerance
+            self.now.table.instants.now self.now.table.positions.now observer around.0 }
+    {
+        let search = Search {
+            orbit: *self,
+            observer,
+            around,
+        };
+        let unranged = LeastRange {
+            range: LARGEST_FINITE,
+            offset: 0,
+        };
+        let by_minutes = search.seek_least_range(MINUTES, unranged);
+        let centre = by_minutes.offset;
+        let seconds = Offsets {
+            first: centre - SECONDS_BEFORE,
+            step: 1,
+            count: SECONDS_COUNT,
+        };
+        let centred = LeastRange {
+            range: LARGEST_FINITE,
+            offset: centre,
+        };
+        let by_seconds = search.seek_least_range(seconds, centred);
+        moved_by_seconds(around, by_seconds.offset)
+    }
 }
 
 // The instant of the closest approach to the observer about an instant, and where that instant lies.
@@ -161,13 +143,15 @@ pub fn find_pca_time(
     positions: &[f64],
     observer: Observer,
     instant: Nanoseconds,
-) -> ClosestApproach
-    ensures { closest_in result ≡ find_pca_time instants.now positions.now observer instant.0 }
+) -> Result<Located<Nanoseconds>, Refusal>
+    ensures { told (with_answer (λ (t : Nanoseconds). t.0)) result ≡ find_pca_time instants.now positions.now observer instant.0 }
 {
-    let refusal = refuse_closest(instants, positions, observer, instant);
-    if refusal != 0 {
-        return ClosestApproach::Refused(refusal);
-    }
-    let found = closest_at(instants, positions, observer, instant, EVEN_TOLERANCE);
-    ClosestApproach::At(found, place_of(instants, found))
+    refuse_closest(instants, positions, observer, instant)?;
+    let orbit = TabulatedOrbit::even(OrbitTable {
+        instants,
+        positions,
+    });
+    let answer = orbit.closest(observer, instant);
+    let place = orbit.place_of(answer);
+    Ok(Located { answer, place })
 }

@@ -3,17 +3,20 @@
 
 mod closest;
 mod fit;
+mod fitting;
 mod passes;
 mod place;
 mod propagation;
 mod residuals;
+mod search;
 mod settings;
 mod stages;
+mod tabulated;
 mod window;
 
-pub use closest::{ClosestApproach, find_pca_time};
-pub use fit::{FitAnswer, Report, fit_satellite};
+pub use closest::find_pca_time;
+pub use fit::{Report, fit_satellite};
 pub use passes::pass;
-pub use place::Place;
-pub use propagation::{MotionAnswer, Propagation, evaluate, propagate_ecef};
-pub use window::{ChebyshevOrbit, Model, get_chebyshev_model};
+pub use place::{Located, Place};
+pub use propagation::{Motion, evaluate, propagate_ecef};
+pub use window::{ChebyshevOrbit, get_chebyshev_model};

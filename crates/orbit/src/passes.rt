@@ -1,60 +1,38 @@
 // The whole pass: checks, one-second means, their measured approach, and the fit on the means.
 ghost use Rattle.std.specs.Prelude.{◌≡◌, ◌≤◌, nat_abs};
+ghost use Rattle.common.specs.Refusals.{told};
 ghost use Rattle.checks.specs.Limits.{farthest_instant};
-ghost use Rattle.checks.specs.Checked.{Table, Samples};
-ghost use Rattle.samples.specs.Means.{recording};
 ghost use Rattle.orbit.specs.Window.{even_tolerance};
 ghost use Rattle.orbit.specs.Residuals.{settings_of, inputs_of};
-ghost use Rattle.orbit.specs.Fit.{fit_of, fit_in};
 ghost use Rattle.orbit.specs.Passes.{measured_by, pass, pass_instants, pass_frequencies};
+ghost use Rattle.orbit.specs.declared.fit.Report.{Report};
 
-use crate::fit::{FitAnswer, Measured, fit_about};
-use crate::settings::{EVEN_TOLERANCE, Settings};
-use checks::{MOST_SAMPLES, refuse_pass};
-use samples::{Approach, Downsampled, downsample_data, estimate_measured_pca_time};
+use crate::fit::{Measured, Report};
+use crate::fitting::Fitting;
+use crate::tabulated::TabulatedOrbit;
+use checks::{OrbitTable, Recording, refuse_pass};
+use common::Refusal;
+use samples::{downsample_data, estimate_measured_pca_time};
 use units::{Hertz, Nanoseconds, Observer};
 
-// The measured approach of samples, or else, where no slope of theirs is below zero, the fallback: the instant of the one at index count/2.
-fn approach_or_middle(samples: &[i64], frequencies: &[f64]) -> Measured
-    requires { Samples samples.now frequencies.now }
-    ensures { (result ≡ measured_by samples.now frequencies.now) × (nat_abs result.instant.0 ≤ farthest_instant) }
-{
-    let approach = estimate_measured_pca_time(samples, frequencies);
-    match approach {
-        Approach::At(instant) => Measured {
-            instant,
-            fallback: false,
-        },
-        Approach::Refused(_) => Measured {
-            instant: Nanoseconds(samples[samples.len() / 2]),
-            fallback: true,
-        },
+impl<'t, 'r> Fitting<'t, 'r> {
+    // The measured approach of the samples, or else, where no slope of theirs is below zero, the fallback: the instant of the one at index count/2.
+    fn approach_or_middle(&self) -> Measured
+        ensures { (result ≡ measured_by self.now.recording.instants.now self.now.recording.frequencies.now)
+            × (nat_abs result.instant.0 ≤ farthest_instant) }
+    {
+        let samples = self.recording.instants;
+        match estimate_measured_pca_time(samples, self.recording.frequencies) {
+            Ok(instant) => Measured {
+                instant,
+                fallback: false,
+            },
+            Err(_) => Measured {
+                instant: Nanoseconds(samples[samples.len() / 2]),
+                fallback: true,
+            },
+        }
     }
-}
-
-// The fit of means about their own measured approach.
-fn fit_means(
-    instants: &[i64],
-    positions: &[f64],
-    means: &[i64],
-    frequencies: &[f64],
-    settings: Settings,
-) -> FitAnswer
-    requires { Table instants.now positions.now × Samples means.now frequencies.now }
-    ensures { fit_in result ≡ fit_of (inputs_of instants.now positions.now settings)
-        (recording means.now frequencies.now) (measured_by means.now frequencies.now) }
-{
-    let measured = approach_or_middle(means, frequencies);
-    let mut values = [0.0; MOST_SAMPLES];
-    fit_about(
-        instants,
-        positions,
-        means,
-        frequencies,
-        settings,
-        measured,
-        &mut values,
-    )
 }
 
 // Clock offset, frequency offset and RMSE of a recording, by the table, and the instant that they were taken about; the means stay in the two areas.
@@ -67,8 +45,8 @@ pub fn pass(
     f0: Hertz,
     mean_instants: &mut [i64],
     mean_frequencies: &mut [f64],
-) -> FitAnswer
-    ensures result_value { fit_in result ≡ pass
+) -> Result<Report, Refusal>
+    ensures result_value { told (λ (r : Report). r) result ≡ pass
         (inputs_of instants.now positions.now (settings_of observer f0 even_tolerance))
         samples.now frequencies.now mean_instants.old mean_frequencies.old }
     ensures mean_instants_after { mean_instants.new ≡ pass_instants
@@ -78,7 +56,7 @@ pub fn pass(
         (inputs_of instants.now positions.now (settings_of observer f0 even_tolerance))
         samples.now frequencies.now mean_instants.old mean_frequencies.old }
 {
-    let refusal = refuse_pass(
+    refuse_pass(
         instants,
         positions,
         samples,
@@ -87,24 +65,21 @@ pub fn pass(
         f0,
         mean_instants,
         mean_frequencies,
-    );
-    if refusal != 0 {
-        return FitAnswer::Refused(refusal);
-    }
-    let settings = Settings {
+    )?;
+    let count = downsample_data(samples, frequencies, mean_instants, mean_frequencies)?;
+    let orbit = TabulatedOrbit::even(OrbitTable {
+        instants,
+        positions,
+    });
+    let recording = Recording {
+        instants: &mean_instants[..count],
+        frequencies: &mean_frequencies[..count],
+    };
+    let fitting = Fitting {
+        orbit,
+        recording,
         observer,
         f0,
-        tolerance: EVEN_TOLERANCE,
     };
-    let means = downsample_data(samples, frequencies, mean_instants, mean_frequencies);
-    match means {
-        Downsampled::Count(n) => fit_means(
-            instants,
-            positions,
-            &mean_instants[..n],
-            &mean_frequencies[..n],
-            settings,
-        ),
-        Downsampled::Refused(again) => FitAnswer::Refused(again),
-    }
+    fitting.fit_about(fitting.approach_or_middle())
 }

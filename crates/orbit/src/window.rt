@@ -1,16 +1,16 @@
 // The window of ten coordinates about an instant, and its Chebyshev model.
-ghost use Rattle.std.specs.Prelude.{◌≡◌, false, ◌+◌, ◌*◌, ◌<◌, ◌≤◌, max, min, length};
-ghost use Rattle.checks.specs.Checks.{unrising};
+ghost use Rattle.std.specs.Prelude.{◌≡◌, ◌+◌, ◌<◌, ◌≤◌, length};
+ghost use Rattle.common.specs.Refusals.{told};
 ghost use Rattle.checks.specs.Limits.{axes};
 ghost use Rattle.orbit.specs.Window.{last_before, start_of, window_start, seconds_of, window_seconds, uneven, tau_of, node_matrix, axis_of};
-ghost use Rattle.orbit.specs.Window.{model_or, model_at, blank_model, model_answer, get_chebyshev_model};
-ghost use Rattle.chebyshev.specs.Inverse.{inverted};
-ghost use Rattle.chebyshev.specs.Ideal.{ideal_matrix};
+ghost use Rattle.orbit.specs.Window.{model_at, get_chebyshev_model};
 
-use crate::settings::EVEN_TOLERANCE;
-use chebyshev::{coefficients_through, ideal_coefficients, values_at};
-use checks::{AXES, refuse_propagation};
+use crate::tabulated::TabulatedOrbit;
+use chebyshev::{Coefficients, coefficients_through, ideal_coefficients, values_at};
+use checks::{AXES, OrbitTable, refuse_propagation};
+use common::Refusal;
 use float::{magnitude, nearest};
+use std::array::from_fn;
 use units::{Nanoseconds, Seconds};
 
 // The seconds in a nanosecond.
@@ -26,66 +26,13 @@ pub struct ChebyshevOrbit {
     pub cz: [f64; 10],
 }
 
-// 0 and the model, or the refusal (1, 4, 5, 6, 8) and a model of zeros.
-#[derive(Clone, Copy)]
-pub struct Model {
-    pub refusal: u8,
-    pub orbit: ChebyshevOrbit,
-}
-
-// The index of the last coordinate at or before the instant, or 0: found by halving.
-fn last_before(instants: &[i64], t: Nanoseconds) -> usize
-    requires { (0 < length instants.now) × (unrising instants.now ≡ false) }
-    ensures { (result < length instants.now) × (result ≡ last_before instants.now t.0) }
-{
-    let mut base: usize = 0;
-    let mut size = instants.len();
-    while size > 1 {
-        let half = size / 2;
-        let middle = base + half;
-        if instants[middle] <= t.0 {
-            base = middle;
-        }
-        size -= half;
-    }
-    base
-}
-
-// The larger of two counts.
-fn larger(a: usize, b: usize) -> usize
-    ensures { result ≡ max a b }
-{
-    if a > b {
-        return a;
-    }
-    b
-}
-
-// The smaller of two counts.
-fn smaller(a: usize, b: usize) -> usize
-    ensures { result ≡ min a b }
-{
-    if a < b {
-        return a;
-    }
-    b
-}
-
 // The start of the window of ten about coordinate idx of n: four before idx, but not before the first, and not after the last start that leaves ten.
 fn start_of(idx: usize, n: usize) -> usize
     requires { (10 ≤ n) × (idx < n) }
     ensures { (result + 10 ≤ n) × (result ≡ start_of idx n) }
 {
-    let start = larger(idx, 4) - 4;
-    smaller(start, n - 10)
-}
-
-// The start of the window about an instant.
-pub(crate) fn window_start(instants: &[i64], t: Nanoseconds) -> usize
-    requires { (10 ≤ length instants.now) × (unrising instants.now ≡ false) }
-    ensures { (result + 10 ≤ length instants.now) × (result ≡ window_start instants.now t.0) }
-{
-    start_of(last_before(instants, t), instants.len())
+    let start = idx.max(4) - 4;
+    start.min(n - 10)
 }
 
 // The seconds of an instant: its nanoseconds rounded to a double, times a billionth.
@@ -95,29 +42,14 @@ pub(crate) fn seconds_of(t: Nanoseconds) -> Seconds
     Seconds(nearest(t.0) * BILLIONTH)
 }
 
-// The ten times of the window, in seconds.
-fn seconds_in(instants: &[i64], start: usize) -> [f64; 10]
-    requires { start + 10 ≤ length instants.now }
-    ensures { result ≡ window_seconds instants.now start }
-{
-    let mut t = [0.0; 10];
-    for k in 0..10 {
-        let seconds = seconds_of(Nanoseconds(instants[start + k]));
-        t[k] = seconds.0;
-    }
-    t
-}
-
 // Whether a gap of the window differs from the mean gap by more than the tolerance. All nine are looked at: without a way out of the loop it is faster.
 fn is_uneven(t: [f64; 10], tolerance: Seconds) -> bool
     ensures { result ≡ uneven tolerance t }
 {
     let gap = (t[9] - t[0]) / 9.0;
     let mut uneven = false;
-    for k in 0..9 {
-        if magnitude((t[k + 1] - t[k]) - gap) > tolerance.0 {
-            uneven = true;
-        }
+    for pair in t.windows(2) {
+        uneven |= magnitude((pair[1] - pair[0]) - gap) > tolerance.0;
     }
     uneven
 }
@@ -134,120 +66,93 @@ fn nodes_of(t: [f64; 10]) -> [[f64; 10]; 10]
     ensures { result ≡ node_matrix t }
 {
     let mut rows = [[0.0; 10]; 10];
-    for k in 0..10 {
-        rows[k] = values_at(tau_of(Seconds(t[0]), Seconds(t[9]), Seconds(t[k])));
+    // `map` and `from_fn` were tried: a closure that answers an array tells a proof nothing of it
+    for (k, time) in t.iter().enumerate() {
+        rows[k] = values_at(tau_of(Seconds(t[0]), Seconds(t[9]), Seconds(*time)));
     }
     rows
 }
 
-// One axis of the window's ten positions: 0 is x, 1 is y, 2 is z.
-fn axis_of(positions: &[f64], start: usize, axis: usize) -> [f64; 10]
-    requires { (axis < axes) × (axes * (start + 10) ≤ length positions.now) }
-    ensures { result ≡ axis_of positions.now start axis }
-{
-    let mut p = [0.0; 10];
-    for k in 0..10 {
-        p[k] = positions[AXES * (start + k) + axis];
+impl TabulatedOrbit<'_> {
+    // The index of the last coordinate at or before the instant, or 0.
+    fn last_before(&self, t: Nanoseconds) -> usize
+        ensures { (result < length self.now.table.instants.now)
+            × (result ≡ last_before self.now.table.instants.now t.0) }
+    {
+        self.table
+            .instants
+            .partition_point(|x| *x <= t.0)
+            .saturating_sub(1)
     }
-    p
-}
 
-// The model of an even window, by the ideal inverse.
-fn even_model(positions: &[f64], start: usize, t: [f64; 10]) -> Model
-    requires { axes * (start + 10) ≤ length positions.now }
-    ensures { result ≡ model_answer (model_or (inverted ideal_matrix) t positions.now start) }
-{
-    let cx = ideal_coefficients(axis_of(positions, start, 0));
-    let cy = ideal_coefficients(axis_of(positions, start, 1));
-    let cz = ideal_coefficients(axis_of(positions, start, 2));
-    Model {
-        refusal: 0,
-        orbit: ChebyshevOrbit {
-            t0: Seconds(t[0]),
-            t9: Seconds(t[9]),
-            cx,
-            cy,
-            cz,
-        },
+    // The start of the window about an instant.
+    pub(crate) fn window_start(&self, t: Nanoseconds) -> usize
+        ensures { (result + 10 ≤ length self.now.table.instants.now)
+            × (result ≡ window_start self.now.table.instants.now t.0) }
+    {
+        start_of(self.last_before(t), self.table.instants.len())
     }
-}
 
-// A refusal beside a model of zeros.
-fn refused_model(refusal: u8) -> Model
-    ensures { result ≡ record { refusal = refusal; orbit = blank_model } }
-{
-    let zeros = [0.0; 10];
-    Model {
-        refusal,
-        orbit: ChebyshevOrbit {
-            t0: Seconds(0.0),
-            t9: Seconds(0.0),
-            cx: zeros,
-            cy: zeros,
-            cz: zeros,
-        },
+    // The ten times of the window that begins at start, in seconds.
+    fn seconds_in(&self, start: usize) -> [f64; 10]
+        requires { start + 10 ≤ length self.now.table.instants.now }
+        ensures { result ≡ window_seconds self.now.table.instants.now start }
+    {
+        let instants = self.table.instants;
+        from_fn(|k| seconds_of(Nanoseconds(instants[start + k])).0)
     }
-}
 
-// The model of an uneven window, by the inverse of its own nodes' matrix; refused by 8 where that has none.
-fn uneven_model(positions: &[f64], start: usize, t: [f64; 10]) -> Model
-    requires { axes * (start + 10) ≤ length positions.now }
-    ensures { result ≡ model_answer (model_or (inverted (node_matrix t)) t positions.now start) }
-{
-    let c = coefficients_through(
-        nodes_of(t),
-        axis_of(positions, start, 0),
-        axis_of(positions, start, 1),
-        axis_of(positions, start, 2),
-    );
-    let refusal = c.refusal;
-    if refusal != 0 {
-        return refused_model(refusal);
+    // One axis of the window's ten positions: 0 is x, 1 is y, 2 is z.
+    fn axis_of(&self, start: usize, axis: usize) -> [f64; 10]
+        requires { (axis < axes) × (start + 10 ≤ length self.now.table.instants.now) }
+        ensures { result ≡ axis_of self.now.table.positions.now start axis }
+    {
+        let positions = self.table.positions;
+        from_fn(|k| positions[AXES * (start + k) + axis])
     }
-    let cx = c.cx;
-    let cy = c.cy;
-    let cz = c.cz;
-    Model {
-        refusal: 0,
-        orbit: ChebyshevOrbit {
-            t0: Seconds(t[0]),
-            t9: Seconds(t[9]),
-            cx,
-            cy,
-            cz,
-        },
-    }
-}
 
-// The model of the window that begins at start.
-pub(crate) fn model_at(
-    instants: &[i64],
-    positions: &[f64],
-    start: usize,
-    tolerance: Seconds,
-) -> Model
-    requires { (start + 10 ≤ length instants.now) × (axes * (start + 10) ≤ length positions.now) }
-    ensures { result ≡ model_answer (model_at tolerance instants.now positions.now start) }
-{
-    let t = seconds_in(instants, start);
-    if is_uneven(t, tolerance) {
-        return uneven_model(positions, start, t);
+    // The model of the window that begins at start: of an even one by the ideal inverse, else by that of its own nodes' matrix, refused where that
+    // has none.
+    pub(crate) fn model_at(&self, start: usize) -> Result<ChebyshevOrbit, Refusal>
+        requires { start + 10 ≤ length self.now.table.instants.now }
+        ensures { told (λ m. m) result
+            ≡ model_at self.now.tolerance self.now.table.instants.now self.now.table.positions.now start }
+    {
+        let t = self.seconds_in(start);
+        let t0 = Seconds(t[0]);
+        let t9 = Seconds(t[9]);
+        // one function that makes both models was tried: it costs 100 instructions a model, and the fit must get no slower
+        if is_uneven(t, self.tolerance) {
+            let Coefficients { cx, cy, cz } = coefficients_through(
+                nodes_of(t),
+                self.axis_of(start, 0),
+                self.axis_of(start, 1),
+                self.axis_of(start, 2),
+            )?;
+            return Ok(ChebyshevOrbit { t0, t9, cx, cy, cz });
+        }
+        Ok(ChebyshevOrbit {
+            t0,
+            t9,
+            cx: ideal_coefficients(self.axis_of(start, 0)),
+            cy: ideal_coefficients(self.axis_of(start, 1)),
+            cz: ideal_coefficients(self.axis_of(start, 2)),
+        })
     }
-    even_model(positions, start, t)
 }
 
 // The Chebyshev model of the window about an instant.
-pub fn get_chebyshev_model(instants: &[i64], positions: &[f64], instant: Nanoseconds) -> Model
-    ensures { result ≡ model_answer (get_chebyshev_model instants.now positions.now instant.0) }
+pub fn get_chebyshev_model(
+    instants: &[i64],
+    positions: &[f64],
+    instant: Nanoseconds,
+) -> Result<ChebyshevOrbit, Refusal>
+    ensures { told (λ m. m) result ≡ get_chebyshev_model instants.now positions.now instant.0 }
 {
-    let refusal = refuse_propagation(instants, positions, instant);
-    if refusal != 0 {
-        return refused_model(refusal);
-    }
-    model_at(
+    refuse_propagation(instants, positions, instant)?;
+    let orbit = TabulatedOrbit::even(OrbitTable {
         instants,
         positions,
-        window_start(instants, instant),
-        EVEN_TOLERANCE,
-    )
+    });
+    orbit.model_at(orbit.window_start(instant))
 }
