@@ -10,12 +10,13 @@ use native.Mathlib.Nat.{add-zero}
 use native.Mathlib.Omega.{arith}
 use lib.Dec.{T}
 use lib.IntN.{pos}
+use Rattle.std.specs.List.{enumerate_from}
 use lib.Ieee.{nan}
 use lib.ListN.{length, get_or}
 use Rattle.common.specs.Lists.{those}
 use Rattle.common.proofs.Those.{those_none, those_yes, those_no, those_nothing}
 use Rattle.checks.specs.Checks.{any}
-use Rattle.checks.proofs.Anys.{any_empty, any-one}
+use Rattle.checks.proofs.Anys.{any-one}
 use Rattle.board.specs.declared.entries.Entry.{Entry}
 use Rattle.board.specs.declared.superseding.Placed.{Placed}
 use Rattle.board.specs.Superseding.{placed_from}
@@ -64,15 +65,15 @@ place-from p k (e ∷ es) m = go (Memᴰ.cases_cons m) (place-from p (k + 1) es)
 -- a test on the entries
 pub any-placed : (f : Entry → Bool) (k : ℕ) (es : List Entry) → any (λ (p : Placed). f p.entry) (placed_from k es) ≡ any f es
 unfolding placed_from
-any-placed f k [] = any_empty (λ (p : Placed). f p.entry) ∙ sym (any_empty f)
-any-placed f k (e ∷ es) = any-one (λ (p : Placed). f p.entry) _ _ ∙ ap (λ (b : Bool). f e || b) (any-placed f (k + 1) es) ∙ sym (any-one f e es)
+any-placed f k [] = refl
+any-placed f k (e ∷ es) = ap (λ (b : Bool). f e || b) (any-placed f (k + 1) es)
 
 -- what at most one place has, one has or none
 pub one_or_none : (P : Placed → Bool) (k : ℕ) (es : List Entry)
     → ((p q : Placed) → Memᴰ p (placed_from k es) → Memᴰ q (placed_from k es) → T (P p) → T (P q) → p.place ≡ q.place)
     → length (those P (placed_from k es)) ≡ cond (any P (placed_from k es)) 1 0
 unfolding placed_from
-one_or_none P k [] f = rw (those_none, any_empty)
+one_or_none P k [] f = rw those_none
 one_or_none P k (e ∷ es) f =
     go (P x) (λ t. t) (those_yes P x xs) (those_no P x xs) (one_or_none P (k + 1) es (λ p q m n. f p q (Memᴰ.tail m) (Memᴰ.tail n)))
     ∙ ap (λ (b : Bool). cond {A = ℕ} b 1 0) (sym (any-one P x xs))
@@ -97,3 +98,9 @@ pub placed-append : (k n : ℕ) (es ds : List Entry) → k + length es ≡ n →
 unfolding placed_from
 placed-append k n [] ds h = ap (λ (m : ℕ). placed_from m ds) (omega arith)
 placed-append k n (e ∷ es) ds h = ap {B = List Placed} (λ r. at k e ∷ r) (placed-append (k + 1) n es ds (omega arith))
+
+-- the places of a list, as the code counts them
+pub any-enumerated : (f : Placed → Bool) (k : ℕ) (es : List Entry) → any (λ (p : ℕ × Entry). f (at p.0 p.1)) (enumerate_from k es) ≡ any f (placed_from k es)
+unfolding placed_from
+any-enumerated f k [] = refl
+any-enumerated f k (e ∷ es) = ap (λ (b : Bool). f (at k e) || b) (any-enumerated f (k + 1) es)

@@ -3,15 +3,13 @@ use Rattle.std.specs.Prelude.{ℕ, Bool, ◌||◌, List, [], ◌∷◌, map, ltb
 use Rattle.common.specs.Rounded.{◌⊘◌}
 use Rattle.common.specs.Numbers.{nought}
 use Rattle.common.specs.Sums.{sum_from}
-use Rattle.common.specs.Outcome.{Outcome, refused, answered, outcome}
+use Rattle.common.specs.Outcome.{Outcome, outcome}
 use Rattle.float.specs.Conversions.{nearest_of}
 use Rattle.checks.specs.Checks.{any, not_finite}
 use Rattle.checks.specs.Entries.{Check, check, first_failing}
 use Rattle.orbit.specs.declared.fit.Report.{Report}
 use Rattle.board.specs.declared.entries.Entry.{Entry}
 use Rattle.board.specs.declared.superseding.Placed.{Placed}
-use Rattle.board.specs.declared.fleet.BoardAnswer.{BoardAnswer}
-use Rattle.board.specs.declared.fleet.BoardAnswer.TheVariants.{Offset, Refused}
 use Rattle.board.specs.Superseding.{survivors}
 
 -- "a satellite number (16 bits), a measured instant and the three doubles of a report"
@@ -58,8 +56,3 @@ board_offset es = let S = survivors es in sum_from nought (clock_offsets S) ⊘ 
 -- the refusal, or the board's clock offset
 abbrev pub fleet_board : List Entry → Outcome Float
 fleet_board es = outcome (board_refusal es) (board_offset es)
-
--- the paper's number and value of each case of the answer
-abbrev pub board_in : BoardAnswer → Outcome Float
-board_in (Offset s) = answered s.0
-board_in (Refused n) = refused n

@@ -3,4 +3,3 @@ pub mod Superseding
 pub mod Board
 pub mod Rules
 pub mod Cases
-pub mod Steps

@@ -21,32 +21,26 @@ pub struct Entry {
     pub rmse: Hertz,
 }
 
+impl Entry {
+    // Whether one of its three doubles is not finite.
+    pub(crate) fn is_not_finite(&self) -> bool
+        ensures { result ≡ entry_not_finite self.now }
+    {
+        not_finite(self.clock_offset.0)
+            || not_finite(self.frequency_offset.0)
+            || not_finite(self.rmse.0)
+    }
+}
+
 // The entry of a report: the instant is the one that its offset was taken about.
 pub fn entry_of(satellite: u16, report: Report) -> Entry
     ensures { result ≡ entry_of satellite report }
 {
-    let instant = report.approach;
-    let clock_offset = report.clock_offset;
-    let frequency_offset = report.frequency_offset;
-    let rmse = report.rmse;
     Entry {
         satellite,
-        instant,
-        clock_offset,
-        frequency_offset,
-        rmse,
+        instant: report.approach,
+        clock_offset: report.clock_offset,
+        frequency_offset: report.frequency_offset,
+        rmse: report.rmse,
     }
-}
-
-// Whether one of an entry's three doubles is not finite.
-pub(crate) fn entry_not_finite(entry: Entry) -> bool
-    ensures { result ≡ entry_not_finite entry }
-{
-    if not_finite(entry.clock_offset.0) {
-        return true;
-    }
-    if not_finite(entry.frequency_offset.0) {
-        return true;
-    }
-    not_finite(entry.rmse.0)
 }

@@ -1,61 +1,60 @@
 // The board's clock offset.
-ghost use Rattle.std.specs.Prelude.{◌≡◌, ◌≤◌};
-ghost use Rattle.board.specs.Board.{most_entries, fleet_board, board_in};
-ghost use Rattle.board.specs.Steps.{taken_of, tallied};
+ghost use Rattle.std.specs.Prelude.{◌≡◌, ◌≤◌, length};
+ghost use Rattle.common.specs.Refusals.{refusal_of, told};
+ghost use Rattle.checks.specs.Checks.{any};
+ghost use Rattle.board.specs.Board.{most_entries, entry_not_finite, board_refusal, board_offset, fleet_board};
 
 use crate::entries::{Entry, MOST_ENTRIES};
-use crate::tally::{Tally, begun, compared};
+use crate::superseding::Placed;
+use common::Refusal;
 use float::nearest;
 use units::Seconds;
 
-// The board's clock offset, or the refusal (14, 15).
-#[derive(Clone, Copy)]
-pub enum BoardAnswer {
-    Offset(Seconds),
-    Refused(u8),
+// Whether a double of one of the entries is not finite.
+fn any_not_finite(entries: &[Entry]) -> bool
+    ensures { result ≡ any entry_not_finite entries.now }
+{
+    entries.iter().any(Entry::is_not_finite)
 }
 
-// How many of so many entries are looked at: all, or none where they are too many.
-fn taken(count: usize) -> usize
-    ensures { result ≡ taken_of count }
+// Refuses no entry or too many, and then an entry with a double that is not finite.
+#[tactic(auto, unfolding(checks::specs::Entries::first_failing))]
+fn refuse_board(entries: &[Entry]) -> Result<(), Refusal>
+    ensures { refusal_of result ≡ board_refusal entries.now }
 {
-    if count > MOST_ENTRIES {
-        return 0;
+    if entries.is_empty() || entries.len() > MOST_ENTRIES {
+        return Err(Refusal::Entries);
     }
-    count
+    if any_not_finite(entries) {
+        return Err(Refusal::NotFinite);
+    }
+    Ok(())
 }
 
-// The answer for so many entries, by the tally of those that were looked at.
-fn answer(tally: Tally, count: usize) -> BoardAnswer
-    requires { tally.survivors ≤ most_entries }
-    ensures { board_in result ≡ tallied count tally }
+// The mean of the clock offsets of the entries that no entry supersedes, summed in list order from 0.0.
+fn mean_of_survivors(entries: &[Entry]) -> Seconds
+    requires { length entries.now ≤ most_entries }
+    ensures { result.0 ≡ board_offset entries.now }
 {
-    if count == 0 {
-        return BoardAnswer::Refused(14);
+    let mut sum = 0.0;
+    let mut survivors = 0usize;
+    for (place, entry) in entries.iter().enumerate() {
+        let judged = Placed {
+            place,
+            entry: *entry,
+        };
+        if !judged.is_superseded(entries) {
+            sum += entry.clock_offset.0;
+            survivors += 1;
+        }
     }
-    if count > MOST_ENTRIES {
-        return BoardAnswer::Refused(14);
-    }
-    if tally.not_finite {
-        return BoardAnswer::Refused(15);
-    }
-    BoardAnswer::Offset(Seconds(tally.sum.0 / nearest(tally.survivors as i64)))
+    Seconds(sum / nearest(survivors as i64))
 }
 
-// The clock offset of a board: the mean of the entries that no entry supersedes, in list order. The one function that goes through a lent slice of
-// structs; all else takes them by value.
-pub fn fleet_board(entries: &[Entry]) -> BoardAnswer
-    ensures { board_in result ≡ fleet_board entries.now }
+// The clock offset of a board: the mean of the entries that no entry supersedes, or the refusal.
+pub fn fleet_board(entries: &[Entry]) -> Result<Seconds, Refusal>
+    ensures { told (λ t. t.0) result ≡ fleet_board entries.now }
 {
-    let count = entries.len();
-    let taken = taken(count);
-    let mut tally = begun();
-    while tally.judged < taken {
-        let judged = tally.judged;
-        let against = tally.against;
-        let entry = entries[judged];
-        let other = entries[against];
-        tally = compared(tally, taken, entry, other);
-    }
-    answer(tally, count)
+    refuse_board(entries)?;
+    Ok(mean_of_survivors(entries))
 }

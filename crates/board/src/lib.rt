@@ -5,7 +5,6 @@
 mod entries;
 mod fleet;
 mod superseding;
-mod tally;
 
 pub use entries::{Entry, MOST_ENTRIES, entry_of};
-pub use fleet::{BoardAnswer, fleet_board};
+pub use fleet::fleet_board;

@@ -1,6 +1,6 @@
 // Which entry of a satellite stands.
 ghost use Rattle.std.specs.Prelude.{◌≡◌};
-ghost use Rattle.board.specs.Superseding.{supersedes};
+ghost use Rattle.board.specs.Superseding.{placed, supersedes, superseded_in};
 
 use crate::entries::Entry;
 
@@ -11,28 +11,33 @@ pub(crate) struct Placed {
     pub(crate) entry: Entry,
 }
 
-// Whether a supersedes b: of one satellite the later instant, at equal instants the smaller RMSE, and if that is equal too the one nearer the front.
-pub(crate) fn supersedes(a: Placed, b: Placed) -> bool
-    ensures { result ≡ supersedes a b }
-{
-    if a.entry.satellite != b.entry.satellite {
-        return false;
+impl Placed {
+    // Whether it supersedes another: of one satellite the later instant, at equal instants the smaller RMSE, and if that is equal too the one nearer the
+    // front.
+    #[tactic(auto, unfolding(crate::specs::Superseding::supersedes))]
+    fn supersedes(self, other: Placed) -> bool
+        ensures { result ≡ supersedes self other }
+    {
+        let instant = self.entry.instant.0;
+        let other_instant = other.entry.instant.0;
+        let rmse = self.entry.rmse.0;
+        let other_rmse = other.entry.rmse.0;
+        self.entry.satellite == other.entry.satellite
+            && (instant > other_instant
+                || instant == other_instant
+                    && (rmse < other_rmse || rmse == other_rmse && self.place < other.place))
     }
-    let a_instant = a.entry.instant.0;
-    let b_instant = b.entry.instant.0;
-    if a_instant > b_instant {
-        return true;
+
+    // Whether one of the entries supersedes it.
+    pub(crate) fn is_superseded(self, entries: &[Entry]) -> bool
+        ensures { result ≡ superseded_in (placed entries.now) self }
+    {
+        entries.iter().enumerate().any(|(place, entry)| {
+            let other = Placed {
+                place,
+                entry: *entry,
+            };
+            other.supersedes(self)
+        })
     }
-    if a_instant < b_instant {
-        return false;
-    }
-    let a_rmse = a.entry.rmse.0;
-    let b_rmse = b.entry.rmse.0;
-    if a_rmse < b_rmse {
-        return true;
-    }
-    if a_rmse == b_rmse {
-        return a.place < b.place;
-    }
-    false
 }
