@@ -1,7 +1,7 @@
 -- A model as C lends it: 32 doubles, t0, t9, then ten coefficients each of x, y and z; and a motion: position and velocity, x, y, z each;
 -- and a report: clock offset, frequency offset, RMSE; and whether its instant is the fallback, and where an instant lies, as numbers.
 -- Assumes nothing.
-use Rattle.std.specs.Prelude.{ℕ, ◌+◌, ◌-◌, cond, List, [], ◌∷◌, ltb, ℤ, get_or, Float}
+use Rattle.std.specs.Prelude.{ℕ, ◌-◌, cond, List, [], ◌∷◌, ltb, ℤ, get_or, Float}
 use Rattle.std.specs.Float.{nan}
 use Rattle.common.specs.Lists.{list_of}
 use Rattle.units.specs.declared.Metres.{Metres}
@@ -12,8 +12,9 @@ use Rattle.orbit.specs.declared.place.Place.{Place}
 use Rattle.orbit.specs.declared.place.Place.TheVariants.{Before, Within, After}
 use Rattle.orbit.specs.declared.window.ChebyshevOrbit.{ChebyshevOrbit}
 use Rattle.orbit.specs.Window.{even_tolerance}
-use Rattle.orbit.specs.Propagation.{Motion}
+use Rattle.orbit.specs.declared.propagation.Motion.{Motion}
 use Rattle.orbit.specs.Residuals.{Inputs, settings_of, inputs_of}
+use Rattle.orbit_abi.specs.Areas.{row_from}
 
 -- number k of the 32
 abbrev pub model_number : ChebyshevOrbit → ℕ → Float
@@ -26,10 +27,6 @@ model_number m k =
 -- all of them
 abbrev pub model_numbers : ChebyshevOrbit → List Float
 model_numbers m = list_of (model_number m) 32 0
-
--- ten numbers from one on
-abbrev pub row_from : List Float → ℕ → List Float
-row_from xs from = list_of (λ k. get_or xs (from + k) nan) 10 0
 
 -- the model that 32 numbers stand for
 abbrev pub model_in : List Float → ChebyshevOrbit

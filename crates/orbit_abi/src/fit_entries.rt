@@ -1,44 +1,46 @@
 // The fit of a recording to a satellite, and the whole pass.
 ghost use Rattle.std.specs.Prelude.{◌≡◌};
 ghost use Rattle.common.specs.Outcome.{refusal_in, area_of};
-ghost use Rattle.orbit.specs.Fit.{fit_satellite, fit_in};
+ghost use Rattle.common.specs.Refusals.{told};
+ghost use Rattle.orbit.specs.Fit.{fit_satellite};
 ghost use Rattle.orbit.specs.Passes.{pass, pass_instants, pass_frequencies};
 ghost use Rattle.orbit.specs.declared.fit.Report.{Report};
 ghost use Rattle.orbit_abi.specs.Models.{inputs_in, report_numbers, fallback_number};
 
-use orbit::FitAnswer;
+use crate::answers::put;
+use common::Refusal;
+use orbit::Report;
 use units::{Hertz, Metres, Nanoseconds, Observer};
+
+// Clock offset in seconds, frequency offset and RMSE in hertz.
+fn report_numbers(x: Report) -> [f64; 3]
+    ensures { result ≡ report_numbers x }
+{
+    [x.clock_offset.0, x.frequency_offset.0, x.rmse.0]
+}
 
 // A report's three numbers, its count, its instant in nanoseconds, whether that is the fallback (1 yes, 0 no) and how many lie outside the table into
 // their areas, or the refusal.
 fn report_into(
-    found: FitAnswer,
+    found: Result<Report, Refusal>,
     report: &mut [f64; 3],
     count: &mut u64,
     approach: &mut i64,
     fallback: &mut u8,
     outside: &mut u64,
 ) -> u8
-    ensures { (result ≡ refusal_in (fit_in found))
-        × (report.new ≡ area_of report_numbers (fit_in found) report.old)
-        × (count.new ≡ area_of (λ (x : Report). x.count) (fit_in found) count.old)
-        × (approach.new ≡ area_of (λ (x : Report). x.approach.0) (fit_in found) approach.old)
-        × (fallback.new ≡ area_of fallback_number (fit_in found) fallback.old)
-        × (outside.new ≡ area_of (λ (x : Report). x.outside) (fit_in found) outside.old) }
+    ensures value { result ≡ refusal_in (told (λ (x : Report). x) found) }
+    ensures report_after { report.new ≡ area_of report_numbers (told (λ (x : Report). x) found) report.old }
+    ensures count_after { count.new ≡ area_of (λ (x : Report). x.count) (told (λ (x : Report). x) found) count.old }
+    ensures approach_after { approach.new ≡ area_of (λ (x : Report). x.approach.0) (told (λ (x : Report). x) found) approach.old }
+    ensures fallback_after { fallback.new ≡ area_of fallback_number (told (λ (x : Report). x) found) fallback.old }
+    ensures outside_after { outside.new ≡ area_of (λ (x : Report). x.outside) (told (λ (x : Report). x) found) outside.old }
 {
-    match found {
-        FitAnswer::Reported(f) => {
-            let three = [f.clock_offset.0, f.frequency_offset.0, f.rmse.0];
-            *report = three;
-            *count = f.count as u64;
-            let nanoseconds = f.approach.0;
-            *approach = nanoseconds;
-            *fallback = f.fallback as u8;
-            *outside = f.outside as u64;
-            0
-        }
-        FitAnswer::Refused(refusal) => refusal,
-    }
+    put(found, report_numbers, report);
+    put(found, |x| x.count as u64, count);
+    put(found, |x| x.approach.0, approach);
+    put(found, |x| u8::from(x.fallback), fallback);
+    put(found, |x| x.outside as u64, outside)
 }
 
 // Clock offset (seconds), frequency offset and RMSE (hertz) of samples about the instant of the measured approach, how many samples there are, and

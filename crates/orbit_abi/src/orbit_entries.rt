@@ -1,74 +1,49 @@
 // The Chebyshev model, position and velocity, and the closest approach.
-ghost use Rattle.std.specs.Prelude.{◌≡◌, ◌<◌, ◌≤◌, ℤ};
+ghost use Rattle.std.specs.Prelude.{◌≡◌, ◌<◌, ℤ};
 ghost use Rattle.common.specs.Outcome.{refusal_in, area_of};
+ghost use Rattle.orbit.specs.declared.place.Located.{Located};
+ghost use Rattle.orbit.specs.declared.propagation.Motion.{Motion};
 ghost use Rattle.orbit.specs.Window.{get_chebyshev_model};
-ghost use Rattle.orbit.specs.Place.{Located};
-ghost use Rattle.orbit.specs.Propagation.{Motion, evaluate, propagate_ecef};
+ghost use Rattle.orbit.specs.Propagation.{evaluate, propagate_ecef};
 ghost use Rattle.orbit.specs.Closest.{find_pca_time};
-ghost use Rattle.orbit_abi.specs.Models.{model_number, model_numbers, row_from, model_in, motion_numbers, place_number, observer_of};
+ghost use Rattle.orbit_abi.specs.Models.{model_number, model_numbers, model_in, motion_numbers, place_number, observer_of};
 
-use orbit::{ChebyshevOrbit, ClosestApproach, MotionAnswer, Place, Propagation};
-use units::{Metres, Nanoseconds, Observer, Position, Seconds, Velocity};
+use crate::answers::{put, ten_from};
+use orbit::{ChebyshevOrbit, Motion, Place};
+use std::array::from_fn;
+use units::{Metres, Nanoseconds, Observer, Seconds};
 
 // Number k of a model: its end times, then the coefficients of x, y and z.
-fn model_number(orbit: ChebyshevOrbit, k: usize) -> f64
+fn model_number(orbit: &ChebyshevOrbit, k: usize) -> f64
     requires { k < 32 }
-    ensures { result ≡ model_number orbit k }
+    ensures { result ≡ model_number orbit.now k }
 {
-    if k < 1 {
-        return orbit.t0.0;
+    match k {
+        0 => orbit.t0.0,
+        1 => orbit.t9.0,
+        2..12 => orbit.cx[k - 2],
+        12..22 => orbit.cy[k - 12],
+        _ => orbit.cz[k - 22],
     }
-    if k < 2 {
-        return orbit.t9.0;
-    }
-    if k < 12 {
-        let cx = orbit.cx;
-        return cx[k - 2];
-    }
-    if k < 22 {
-        let cy = orbit.cy;
-        return cy[k - 12];
-    }
-    let cz = orbit.cz;
-    cz[k - 22]
 }
 
 // The 32 numbers of a model.
 fn model_numbers(orbit: ChebyshevOrbit) -> [f64; 32]
     ensures { result ≡ model_numbers orbit }
 {
-    let mut numbers = [0.0; 32];
-    for k in 0..32 {
-        numbers[k] = model_number(orbit, k);
-    }
-    numbers
-}
-
-// Ten of the 32 numbers, from one on.
-fn row_from(numbers: &[f64; 32], from: usize) -> [f64; 10]
-    requires { from ≤ 22 }
-    ensures { result ≡ row_from numbers.now from }
-{
-    let mut row = [0.0; 10];
-    for k in 0..10 {
-        row[k] = numbers[from + k];
-    }
-    row
+    from_fn(|k| model_number(&orbit, k))
 }
 
 // The model with these 32 numbers.
 fn model_of(numbers: &[f64; 32]) -> ChebyshevOrbit
     ensures { result ≡ model_in numbers.now }
 {
-    let cx = row_from(numbers, 2);
-    let cy = row_from(numbers, 12);
-    let cz = row_from(numbers, 22);
     ChebyshevOrbit {
         t0: Seconds(numbers[0]),
         t9: Seconds(numbers[1]),
-        cx,
-        cy,
-        cz,
+        cx: ten_from(numbers, 2),
+        cy: ten_from(numbers, 12),
+        cz: ten_from(numbers, 22),
     }
 }
 
@@ -83,20 +58,19 @@ pub extern "C" fn orbit_get_chebyshev_model(
     ensures { (result ≡ refusal_in (get_chebyshev_model instants.now positions.now instant.0))
         × (model.new ≡ area_of model_numbers (get_chebyshev_model instants.now positions.now instant.0) model.old) }
 {
-    let m = orbit::get_chebyshev_model(instants, positions, instant);
-    let refusal = m.refusal;
-    if refusal == 0 {
-        let o = m.orbit;
-        let numbers = model_numbers(o);
-        *model = numbers;
-    }
-    refusal
+    put(
+        orbit::get_chebyshev_model(instants, positions, instant),
+        model_numbers,
+        model,
+    )
 }
 
 // The six numbers of a position and a velocity: x, y, z each.
-fn motion_numbers(p: Position, v: Velocity) -> [f64; 6]
-    ensures { result ≡ motion_numbers (record { position = p; velocity = v }) }
+fn motion_numbers(m: Motion) -> [f64; 6]
+    ensures { result ≡ motion_numbers m }
 {
+    let p = m.position;
+    let v = m.velocity;
     [p.x, p.y, p.z, v.x, v.y, v.z]
 }
 
@@ -104,11 +78,7 @@ fn motion_numbers(p: Position, v: Velocity) -> [f64; 6]
 fn place_number(place: Place) -> u8
     ensures { result ≡ place_number place }
 {
-    match place {
-        Place::Before => 0,
-        Place::Within => 1,
-        Place::After => 2,
-    }
+    place as u8
 }
 
 // Position (metres) and velocity (metres for each second) by a model at an instant: x, y, z each.
@@ -117,15 +87,11 @@ pub extern "C" fn orbit_evaluate(model: &[f64; 32], instant: Nanoseconds, out: &
     ensures { (result ≡ refusal_in (evaluate (model_in model.now) instant.0))
         × (out.new ≡ area_of motion_numbers (evaluate (model_in model.now) instant.0) out.old) }
 {
-    let evaluation = orbit::evaluate(model_of(model), instant);
-    match evaluation {
-        MotionAnswer::At(p, v) => {
-            let six = motion_numbers(p, v);
-            *out = six;
-            0
-        }
-        MotionAnswer::Refused(refusal) => refusal,
-    }
+    put(
+        orbit::evaluate(model_of(model), instant),
+        motion_numbers,
+        out,
+    )
 }
 
 // Position (metres) and velocity (metres for each second) by a table at an instant: x, y, z each; and where the instant lies (0 before the first
@@ -144,16 +110,9 @@ pub extern "C" fn orbit_propagate_ecef(
         × (place.new ≡ area_of (λ (x : Located Motion). place_number x.place)
         (propagate_ecef instants.now positions.now instant.0) place.old) }
 {
-    let propagation = orbit::propagate_ecef(instants, positions, instant);
-    match propagation {
-        Propagation::At(p, v, at) => {
-            let six = motion_numbers(p, v);
-            *out = six;
-            *place = place_number(at);
-            0
-        }
-        Propagation::Refused(refusal) => refusal,
-    }
+    let found = orbit::propagate_ecef(instants, positions, instant);
+    put(found.map(|x| x.answer), motion_numbers, out);
+    put(found, |x| place_number(x.place), place)
 }
 
 // The instant in nanoseconds of the closest approach to an observer about an instant, and where it lies (0 before the first coordinate, 1 from the
@@ -181,13 +140,6 @@ pub extern "C" fn orbit_find_pca_time(
         z: oz,
     };
     let closest = orbit::find_pca_time(instants, positions, observer, instant);
-    match closest {
-        ClosestApproach::At(t, at) => {
-            let nanoseconds = t.0;
-            *found = nanoseconds;
-            *place = place_number(at);
-            0
-        }
-        ClosestApproach::Refused(refusal) => refusal,
-    }
+    put(closest, |x| x.answer.0, found);
+    put(closest, |x| place_number(x.place), place)
 }

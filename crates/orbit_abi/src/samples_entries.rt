@@ -5,7 +5,7 @@ ghost use Rattle.samples.specs.Approach.{estimate_measured_pca_time, steepest_sl
 ghost use Rattle.samples.specs.Means.{downsample_data, downsampled_instants, downsampled_frequencies};
 ghost use Rattle.samples.specs.Slant.{estimate_slant_range};
 
-use samples::{Approach, Downsampled, Slope};
+use crate::answers::put;
 use units::{Hertz, Metres};
 
 // The means of the samples at the front of the two areas, seconds rising, and their count; the rest of each area stays, and a refusal writes nothing.
@@ -28,13 +28,7 @@ pub extern "C" fn orbit_downsample_data(
         downsampled_frequencies instants.now frequencies.now mean_instants.old mean_frequencies.old }
 {
     let means = samples::downsample_data(instants, frequencies, mean_instants, mean_frequencies);
-    match means {
-        Downsampled::Count(n) => {
-            *count = n as u64;
-            0
-        }
-        Downsampled::Refused(refusal) => refusal,
-    }
+    put(means, |n| n as u64, count)
 }
 
 // The instant in nanoseconds of the middle sample of the first least slope below zero; the frequencies are in hertz.
@@ -49,14 +43,7 @@ pub extern "C" fn orbit_estimate_measured_pca_time(
         area_of (λ (t : ℤ). t) (estimate_measured_pca_time instants.now frequencies.now) found.old) }
 {
     let measured = samples::estimate_measured_pca_time(instants, frequencies);
-    match measured {
-        Approach::At(t) => {
-            let nanoseconds = t.0;
-            *found = nanoseconds;
-            0
-        }
-        Approach::Refused(refusal) => refusal,
-    }
+    put(measured, |t| t.0, found)
 }
 
 // The steepest slope of at least −120, in hertz for each second; 0.0 where none is below zero.
@@ -65,14 +52,7 @@ pub extern "C" fn orbit_steepest_slope(instants: &[i64], frequencies: &[f64], sl
     ensures { (result ≡ refusal_in (steepest_slope instants.now frequencies.now))
         × (slope.new ≡ area_of (λ (s : Float). s) (steepest_slope instants.now frequencies.now) slope.old) }
 {
-    let least = samples::steepest_slope(instants, frequencies);
-    match least {
-        Slope::Steepest(s) => {
-            *slope = s;
-            0
-        }
-        Slope::Refused(refusal) => refusal,
-    }
+    put(samples::steepest_slope(instants, frequencies), |s| s, slope)
 }
 
 // The distance to the satellite at its closest, from the centre frequency and the steepest slope in hertz for each second.

@@ -3,7 +3,7 @@ ghost use Rattle.std.specs.Prelude.{◌≡◌, ℕ};
 ghost use Rattle.common.specs.Outcome.{refusal_in, area_of};
 ghost use Rattle.sp3.specs.Entries.{read_sp3, sp3_instants, sp3_positions};
 
-use sp3::Sp3Read;
+use crate::answers::put;
 use units::LeapSeconds;
 
 // The records of a satellite in an orbit file in SP3-c: their instants and positions at the front of the two areas, in the file's order, and their
@@ -28,11 +28,5 @@ pub extern "C" fn orbit_read_sp3(
         sp3_positions bytes.now satellite.now leap_seconds instants.old positions.old }
 {
     let read = sp3::read_sp3(bytes, *satellite, leap_seconds, instants, positions);
-    match read {
-        Sp3Read::Count(n) => {
-            *count = n as u64;
-            0
-        }
-        Sp3Read::Refused(refusal) => refusal,
-    }
+    put(read, |n| n as u64, count)
 }
