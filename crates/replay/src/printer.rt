@@ -1,38 +1,142 @@
 // Answers, put on the output word by word, a blank before each.
-use crate::numbers::unsigned;
+use chebyshev::Evaluation;
+use common::Refusal;
+use orbit::{ChebyshevOrbit, Located, Motion, Place, Report};
 use std::io;
 use std::io::Write;
+use units::{Nanoseconds, Seconds};
 
-// Puts the 16 digits of a word.
-pub(crate) fn print_word(out: &mut impl Write, word: u64) -> io::Result<()> {
-    write!(out, " {word:016x}")
+// What is put on the output as words.
+pub(crate) trait Answer {
+    // Puts it on the output.
+    fn put(&self, out: &mut impl Write) -> io::Result<()>;
 }
 
-// Puts a refusal, or 0, in decimal.
-pub(crate) fn print_refusal(out: &mut impl Write, refusal: u8) -> io::Result<()> {
-    write!(out, " {refusal}")
-}
-
-// Puts a double's bits, and a NaN as `nan`.
-pub(crate) fn print_double(out: &mut impl Write, x: f64) -> io::Result<()> {
-    if x != x {
-        return out.write_all(b" nan");
-    }
-    print_word(out, f64::to_bits(x))
-}
-
-// Puts one double after the other.
-pub(crate) fn print_doubles(out: &mut impl Write, numbers: &[f64]) -> io::Result<()> {
-    for x in numbers {
-        print_double(out, *x)?;
+// Puts one after the other.
+pub(crate) fn put_all<A: Answer>(out: &mut impl Write, answers: &[A]) -> io::Result<()> {
+    for answer in answers {
+        answer.put(out)?;
     }
     Ok(())
 }
 
-// Puts the two's complement of one whole number after the other.
-pub(crate) fn print_wholes(out: &mut impl Write, numbers: &[i64]) -> io::Result<()> {
-    for n in numbers {
-        print_word(out, unsigned(*n))?;
+// The 16 digits of a word.
+impl Answer for u64 {
+    fn put(&self, out: &mut impl Write) -> io::Result<()> {
+        write!(out, " {self:016x}")
     }
-    Ok(())
+}
+
+// A whole number's two's complement.
+impl Answer for i64 {
+    fn put(&self, out: &mut impl Write) -> io::Result<()> {
+        self.cast_unsigned().put(out)
+    }
+}
+
+// A count.
+impl Answer for usize {
+    fn put(&self, out: &mut impl Write) -> io::Result<()> {
+        (*self as u64).put(out)
+    }
+}
+
+// A double's bits, and a NaN as `nan`.
+impl Answer for f64 {
+    fn put(&self, out: &mut impl Write) -> io::Result<()> {
+        if self.is_nan() {
+            return out.write_all(b" nan");
+        }
+        self.to_bits().put(out)
+    }
+}
+
+// A time, in seconds.
+impl Answer for Seconds {
+    fn put(&self, out: &mut impl Write) -> io::Result<()> {
+        self.0.put(out)
+    }
+}
+
+// An instant, in nanoseconds.
+impl Answer for Nanoseconds {
+    fn put(&self, out: &mut impl Write) -> io::Result<()> {
+        self.0.put(out)
+    }
+}
+
+// The hundred cells of an inverse.
+impl Answer for [f64; 100] {
+    fn put(&self, out: &mut impl Write) -> io::Result<()> {
+        put_all(out, self)
+    }
+}
+
+// A sum and its slope.
+impl Answer for Evaluation {
+    fn put(&self, out: &mut impl Write) -> io::Result<()> {
+        put_all(out, &[self.value, self.slope])
+    }
+}
+
+// A model's end times and the coefficients of each axis.
+impl Answer for ChebyshevOrbit {
+    fn put(&self, out: &mut impl Write) -> io::Result<()> {
+        put_all(out, &[self.t0.0, self.t9.0])?;
+        put_all(out, &self.cx)?;
+        put_all(out, &self.cy)?;
+        put_all(out, &self.cz)
+    }
+}
+
+// A position and a velocity.
+impl Answer for Motion {
+    fn put(&self, out: &mut impl Write) -> io::Result<()> {
+        let position = self.position;
+        let velocity = self.velocity;
+        put_all(out, &[position.x, position.y, position.z])?;
+        put_all(out, &[velocity.x, velocity.y, velocity.z])
+    }
+}
+
+// Where an instant lies: 0 before the first coordinate, 1 from the first to the last, 2 after the last.
+impl Answer for Place {
+    fn put(&self, out: &mut impl Write) -> io::Result<()> {
+        (*self as u64).put(out)
+    }
+}
+
+// An answer, and behind it the place of its instant.
+impl<A: Answer> Answer for Located<A> {
+    fn put(&self, out: &mut impl Write) -> io::Result<()> {
+        self.answer.put(out)?;
+        self.place.put(out)
+    }
+}
+
+// Clock offset, frequency offset, RMSE, count, the instant, 1 or 0 for the fallback and how many lie outside the table.
+impl Answer for Report {
+    fn put(&self, out: &mut impl Write) -> io::Result<()> {
+        put_all(
+            out,
+            &[self.clock_offset.0, self.frequency_offset.0, self.rmse.0],
+        )?;
+        self.count.put(out)?;
+        self.approach.put(out)?;
+        u64::from(self.fallback).put(out)?;
+        self.outside.put(out)
+    }
+}
+
+// A refusal's number in decimal alone, or 0 and the answer.
+impl<A: Answer> Answer for Result<A, Refusal> {
+    fn put(&self, out: &mut impl Write) -> io::Result<()> {
+        match self {
+            Ok(answer) => {
+                out.write_all(b" 0")?;
+                answer.put(out)
+            }
+            Err(refusal) => write!(out, " {}", refusal.number()),
+        }
+    }
 }

@@ -1,135 +1,134 @@
-// The words of a case. Each is decoded twice, at the same place of two arrays: as a whole number and as a double.
-// What an entry takes are slices, each after its length, and then words. Every function here takes any words: what a case lacks is a slice of no
-// elements, or any number, and the entry says then that it was no case of it.
-use crate::numbers::unsigned;
+// The words of a line, taken in turn by the entry that it names: slices, each after its length, and single words.
+use crate::numbers::double;
 use checks::{AXES, MOST_COORDINATES, MOST_SAMPLES};
-use std::num::wrapping_sub_usize;
+use std::alloc::{AllocError, Global};
 use units::{Metres, Observer};
 
-// How many words a case may have: the longest table, the longest recording, and some for a row or a sample too many and for single words.
+// How many words a line may have: the longest table, the longest recording, and some for a row or a sample too many and for single words.
 pub(crate) const ROOM: usize = (1 + AXES) * MOST_COORDINATES + 2 * MOST_SAMPLES + 64;
 
-// The words of a case as whole numbers.
-pub(crate) type Wholes = [i64; ROOM];
-
-// The words of a case as doubles.
-pub(crate) type Doubles = [f64; ROOM];
-
-// How many bytes an orbit file may have.
-pub(crate) const FILE: usize = 1024;
-
-// Past every place: there is no such slice.
-const NOWHERE: usize = 0x8000_0000_0000_0000;
-
-// How many words a case has; where its first four slices end, which is where the next one's length stands, or the first word after the slices; and
-// how many words there are after one slice, after two and after four, a number that no case has where there are no such slices.
+// The words that are not yet taken. Where a line lacks a word, what an earlier line left at its place is taken; where it lacks a slice, that has no
+// element, and the words behind it are 0. Either way the line is no case of its entry, which `has_left` tells.
 #[derive(Clone, Copy)]
-pub(crate) struct Case {
-    pub count: usize,
-    pub first: usize,
-    pub second: usize,
-    pub third: usize,
-    pub fourth: usize,
-    pub after_one: usize,
-    pub after_two: usize,
-    pub after_four: usize,
+pub(crate) struct Words<'a> {
+    // the words from here on: the line's own, and behind them those that earlier lines left
+    room: &'a [u64],
+    // how many of them are the line's own; none where one was taken that it lacks
+    own: Option<usize>,
 }
 
-// Where the slice ends whose length stands at `at`, if it ends within `count` words.
-fn slice_end(wholes: &Wholes, count: usize, at: usize) -> usize {
-    if at >= count {
-        return NOWHERE;
-    }
-    if at >= ROOM {
-        return NOWHERE;
-    }
-    let elements = unsigned(wholes[at]) as usize;
-    if elements >= count - at {
-        return NOWHERE;
-    }
-    at + 1 + elements
-}
-
-// Where the slices end in a case of `count` words, as far as it has any.
-pub(crate) fn case_of(wholes: &Wholes, count: usize) -> Case {
-    let first = slice_end(wholes, count, 0);
-    let second = slice_end(wholes, count, first);
-    let third = slice_end(wholes, count, second);
-    let fourth = slice_end(wholes, count, third);
-    Case {
-        count,
-        first,
-        second,
-        third,
-        fourth,
-        after_one: wrapping_sub_usize(count, first),
-        after_two: wrapping_sub_usize(count, second),
-        after_four: wrapping_sub_usize(count, fourth),
-    }
-}
-
-// The whole numbers of the slice whose length stands at `at` and which ends at `end`.
-pub(crate) fn wholes_in<'a>(wholes: &'a Wholes, at: usize, end: usize) -> &'a [i64] {
-    let all: &[i64] = wholes;
-    if end <= ROOM {
-        if at < end {
-            return &all[at + 1..end];
+impl<'a> Words<'a> {
+    // The first `count` words of the room, none of them taken.
+    pub(crate) fn new(room: &'a [u64], count: usize) -> Words<'a> {
+        Words {
+            room,
+            own: Some(count),
         }
     }
-    &all[0..0]
-}
 
-// The doubles of the slice whose length stands at `at` and which ends at `end`.
-pub(crate) fn doubles_in<'a>(doubles: &'a Doubles, at: usize, end: usize) -> &'a [f64] {
-    let all: &[f64] = doubles;
-    if end <= ROOM {
-        if at < end {
-            return &all[at + 1..end];
+    // Whether so many of the line's own words are left, and none was taken that it lacks.
+    pub(crate) fn has_left(&self, count: usize) -> bool {
+        self.own == Some(count)
+    }
+
+    // The k-th word from the line's end, counted from 1; 0 where it has fewer.
+    pub(crate) fn from_end(&self, k: usize) -> u64 {
+        let place = self.own.and_then(|own| own.checked_sub(k));
+        match place {
+            Some(place) => self.room.get(place).copied().unwrap_or(0),
+            None => 0,
         }
     }
-    &all[0..0]
-}
 
-// The whole number `k` words after `at`.
-pub(crate) fn whole_at(wholes: &Wholes, at: usize, k: usize) -> i64 {
-    if at < ROOM {
-        if k < ROOM - at {
-            return wholes[at + k];
+    // The next word.
+    pub(crate) fn word(&mut self) -> u64 {
+        self.own = self.own.and_then(|own| own.checked_sub(1));
+        match self.room.split_first() {
+            Some((word, rest)) => {
+                self.room = rest;
+                *word
+            }
+            None => 0,
         }
     }
-    0
-}
 
-// Ten doubles, from `at` on.
-pub(crate) fn ten_doubles(doubles: &Doubles, at: usize) -> [f64; 10] {
-    let mut ten = [0.0; 10];
-    if at < ROOM - 10 {
-        for i in 0..10 {
-            ten[i] = doubles[at + i];
+    // The next word, as the whole number of which it is the two's complement.
+    pub(crate) fn whole(&mut self) -> i64 {
+        self.word().cast_signed()
+    }
+
+    // The next word, as the double whose bits it has.
+    pub(crate) fn double(&mut self) -> f64 {
+        double(self.word())
+    }
+
+    // The next ten words, as doubles.
+    pub(crate) fn ten_doubles(&mut self) -> [f64; 10] {
+        let mut ten = [0.0; 10];
+        for x in ten.iter_mut() {
+            *x = self.double();
+        }
+        ten
+    }
+
+    // The next three words, as the place of the observer.
+    pub(crate) fn observer(&mut self) -> Observer {
+        let x = Metres(self.double());
+        let y = Metres(self.double());
+        let z = Metres(self.double());
+        Observer { x, y, z }
+    }
+
+    // The slice whose length is the next word, and the words behind it; none where the line lacks one of these.
+    fn split_slice(self) -> Option<(&'a [u64], Words<'a>)> {
+        let (length, behind) = self.room.split_first()?;
+        let length = *length as usize;
+        let own = self.own?.checked_sub(1)?.checked_sub(length)?;
+        let (slice, room) = behind.split_at_checked(length)?;
+        let rest = Words {
+            room,
+            own: Some(own),
+        };
+        Some((slice, rest))
+    }
+
+    // The next slice.
+    pub(crate) fn slice(&mut self) -> &'a [u64] {
+        match self.split_slice() {
+            Some((slice, rest)) => {
+                *self = rest;
+                slice
+            }
+            None => {
+                *self = Words {
+                    room: &[],
+                    own: None,
+                };
+                &[]
+            }
         }
     }
-    ten
-}
 
-// Where the observer stands: the first three of the doubles.
-pub(crate) fn observer(words: [f64; 10]) -> Observer {
-    Observer {
-        x: Metres(words[0]),
-        y: Metres(words[1]),
-        z: Metres(words[2]),
+    // The next slice, as whole numbers.
+    pub(crate) fn wholes(&mut self, alloc: Global) -> Result<Vec<i64>, AllocError> {
+        self.slice()
+            .iter()
+            .map(|word| word.cast_signed())
+            .collect(alloc)
     }
-}
 
-// The bytes of an orbit file from word 1 on, eight in each word, the first one lowest; what lies behind its end is anything.
-pub(crate) fn bytes_of(wholes: &Wholes) -> [u8; FILE] {
-    let mut bytes = [0u8; FILE];
-    let mut word: u64 = 0;
-    for i in 0..FILE {
-        if i % 8 == 0 {
-            word = unsigned(wholes[1 + i / 8]);
-        }
-        bytes[i] = (word % 256) as u8;
-        word = word / 256;
+    // The next slice, as doubles.
+    pub(crate) fn doubles(&mut self, alloc: Global) -> Result<Vec<f64>, AllocError> {
+        self.slice().iter().map(|word| double(*word)).collect(alloc)
     }
-    bytes
+
+    // So many bytes of the words behind the next one, eight in each, the first one lowest.
+    pub(crate) fn bytes_behind(&self, alloc: Global, count: usize) -> Result<Vec<u8>, AllocError> {
+        self.room
+            .iter()
+            .skip(1)
+            .flat_map(|word| word.to_le_bytes())
+            .take(count)
+            .collect(alloc)
+    }
 }

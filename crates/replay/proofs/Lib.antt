@@ -1,3 +1,0 @@
--- What the proofs of replay share.
-mod Glyphs
-mod Signs
