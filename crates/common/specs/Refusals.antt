@@ -5,7 +5,7 @@ use Rattle.common.specs.declared.refusal.Refusal.TheVariants.{Coordinates, Sampl
 use Rattle.common.specs.declared.refusal.Refusal.TheVariants.{NoFall, NoShift, Undescribed, TimeSystem, Records, Entries, NotFinite}
 use Rattle.common.specs.Outcome.{Outcome, refused, answered}
 
--- the number of each
+-- the papers' number of each
 abbrev pub number_of : Refusal → ℕ
 number_of Coordinates = 1
 number_of Samples = 2
