@@ -1,6 +1,7 @@
-// Checks 1 to 7 of document 01, each one function proved equal to its definition, and the first that fails for each entry.
+// Checks 1 to 7 of document 01, each one function proved equal to its definition, and the first that fails for each entry; what passed is a type.
 #![tactic(auto)]
 
+mod checked_instant;
 mod entries;
 mod instants;
 mod limits;
@@ -9,6 +10,7 @@ mod places;
 mod recording;
 mod table;
 
+pub use checked_instant::CheckedInstant;
 pub use entries::{
     refuse_closest, refuse_evaluation, refuse_fit, refuse_means, refuse_pass, refuse_propagation,
     refuse_samples,
