@@ -13,8 +13,7 @@ use lib.Seq.{get_or-drop}
 use lib.Ieee.{Float}
 use mir.Syntax.{w64}
 use mir.Val.{SFits}
-use mir.ValLaws.{to_z-of_z}
-use Rattle.common.proofs.Parts.{within-fits, abs_parts, back}
+use Rattle.common.proofs.Parts.{within-fits, abs_parts}
 use Rattle.checks.specs.Limits.{farthest_instant}
 use Rattle.common.specs.Integers.{eq_z}
 use Rattle.samples.specs.Means.{Sample, whole_second, bin, recording, instants, Alike}
@@ -60,9 +59,6 @@ limited-picked d (m ∷ ms) (x ∷ l) h k = go (eqb m d) (limited-picked d ms l 
 -- as the machine holds it and reads it back
 pub limit_fits : (t : ℤ) → nat_abs t ≤ farthest_instant → SFits w64 t
 limit_fits t h = within-fits t (omega (arith, abs_parts t))
-
-pub limit_back : (t : ℤ) → nat_abs t ≤ farthest_instant → nat_abs (back t) ≤ farthest_instant
-limit_back t h = subst (λ (z : ℤ). nat_abs z ≤ farthest_instant) (sym (to_z-of_z w64 t (limit_fits t h))) h
 
 -- ---- samples that are alike to others are among them
 

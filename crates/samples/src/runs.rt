@@ -9,7 +9,8 @@ ghost use Rattle.samples.specs.Runs.{second_at, Begins, Run};
 use crate::mean_areas::MeanAreas;
 use crate::sorted::SortedRecording;
 use crate::sums::{in_second, run_mean, second_of, second_start};
-use checks::Recording;
+use checks::{CheckedInstant, Recording};
+use units::Nanoseconds;
 
 // Whether the second of b is before that of a; where b itself is not before a it is not, which needs no division.
 fn falls(a: i64, b: i64) -> bool
@@ -60,7 +61,9 @@ impl<'a> SortedRecording<'a> {
             areas.old areas.new }
     {
         let samples = self.recording;
-        let start = second_start(samples.instants[from]);
+        let start = second_start(CheckedInstant {
+            instant: Nanoseconds(samples.instants[from]),
+        });
         let end = run_end(&samples, from, start);
         let run = Recording {
             instants: &samples.instants[from..end],

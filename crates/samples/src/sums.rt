@@ -1,11 +1,10 @@
 // Whole seconds, and the mean of one second's samples.
-ghost use Rattle.std.specs.Prelude.{◌≡◌, ◌≤◌, pos, nat_abs, get_or};
-ghost use Rattle.checks.specs.Limits.{farthest_instant};
+ghost use Rattle.std.specs.Prelude.{◌≡◌, ◌≤◌, pos, get_or};
 ghost use Rattle.common.specs.Integers.{eq_z};
 ghost use Rattle.samples.specs.Means.{recording, whole_second, mean_of};
 ghost use Rattle.samples.specs.Sums.{second_start, StartsSecond, OneSecond, sums_of, as_mean};
 
-use checks::Recording;
+use checks::{CheckedInstant, Recording};
 use float::nearest;
 use units::{Hertz, MICROSECOND, Nanoseconds, SECOND};
 
@@ -31,11 +30,10 @@ pub(crate) fn second_of(t: i64) -> i64
 }
 
 // The first nanosecond of an instant's second.
-pub(crate) fn second_start(t: i64) -> i64
-    requires { nat_abs t ≤ farthest_instant }
-    ensures { result ≡ second_start t }
+pub(crate) fn second_start(t: CheckedInstant) -> i64
+    ensures { result ≡ second_start t.instant.0 }
 {
-    second_of(t) * SECOND
+    second_of(t.instant.0) * SECOND
 }
 
 // Whether an instant lies in the second that starts there.
