@@ -3,3 +3,4 @@ pub mod Limits
 pub mod Checks
 pub mod Entries
 pub mod Checked
+pub mod Areas

@@ -4,6 +4,7 @@
 mod checked_instant;
 mod entries;
 mod instants;
+mod lent_areas;
 mod limits;
 mod numbers;
 mod places;
@@ -16,6 +17,7 @@ pub use entries::{
     refuse_samples,
 };
 pub use instants::beyond;
+pub use lent_areas::LentAreas;
 pub use limits::{AXES, FARTHEST_INSTANT, MOST_COORDINATES, MOST_SAMPLES};
 pub use numbers::not_finite;
 pub use recording::Recording;

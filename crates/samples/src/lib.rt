@@ -2,7 +2,6 @@
 #![tactic(auto)]
 
 mod approach;
-mod mean_areas;
 mod means;
 mod runs;
 mod shuffled;

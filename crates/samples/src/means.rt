@@ -2,13 +2,13 @@
 ghost use Rattle.std.specs.Prelude.{◌≡◌, ◌≤◌, ◌<◌, length};
 ghost use Rattle.common.specs.Refusals.{told};
 ghost use Rattle.checks.specs.Limits.{most_samples};
-ghost use Rattle.samples.specs.Means.{downsample_data, downsampled_instants, downsampled_frequencies, recording, means};
-ghost use Rattle.samples.specs.Written.{Room, MeansWritten};
+ghost use Rattle.checks.specs.Areas.{Room};
+ghost use Rattle.samples.specs.Means.{downsample_data, downsampled_instants, downsampled_frequencies};
+ghost use Rattle.samples.specs.Written.{MeansWritten};
 
-use crate::mean_areas::MeanAreas;
 use crate::shuffled::Shuffled;
 use crate::sorted::SortedRecording;
-use checks::{MOST_SAMPLES, Recording, refuse_means};
+use checks::{LentAreas, MOST_SAMPLES, Recording, refuse_means};
 use common::Refusal;
 
 // So few samples that short arrays hold them.
@@ -16,12 +16,11 @@ const FEW_SAMPLES: usize = 64;
 
 // The means of samples whose seconds fall somewhere, by a copy in arrays with room for them: once it is sorted its seconds never fall,
 // and it has the same means. Less room is sooner cleared.
-fn write_shuffled<const ROOM: usize>(samples: &Recording, areas: &mut MeanAreas) -> usize
+fn write_shuffled<const ROOM: usize>(samples: &Recording, areas: &mut LentAreas<1>) -> usize
     requires samples_fit { length samples.now.instants.now ≤ ROOM }
     requires room_bound { ROOM ≤ most_samples }
-    requires room { Room samples.now.instants.now areas.old }
-    ensures count { result ≡ length (means (recording samples.now.instants.now samples.now.frequencies.now)) }
-    ensures means_written { MeansWritten samples.now.instants.now samples.now.frequencies.now areas.old areas.new }
+    requires room { Room 1 (length samples.now.instants.now) areas.old }
+    ensures { MeansWritten samples.now result areas.old areas.new }
 {
     let count = samples.instants.len();
     let mut instants = [0i64; ROOM];
@@ -53,10 +52,9 @@ fn write_shuffled<const ROOM: usize>(samples: &Recording, areas: &mut MeanAreas)
 }
 
 // The means of samples at the front of the two areas, seconds rising; answers how many there are.
-pub(crate) fn write_means(samples: &Recording, areas: &mut MeanAreas) -> usize
-    requires room { Room samples.now.instants.now areas.old }
-    ensures count { result ≡ length (means (recording samples.now.instants.now samples.now.frequencies.now)) }
-    ensures means_written { MeansWritten samples.now.instants.now samples.now.frequencies.now areas.old areas.new }
+pub(crate) fn write_means(samples: &Recording, areas: &mut LentAreas<1>) -> usize
+    requires room { Room 1 (length samples.now.instants.now) areas.old }
+    ensures { MeansWritten samples.now result areas.old areas.new }
 {
     if let Some(sorted) = SortedRecording::if_sorted(samples) {
         sorted.write_runs(areas)
@@ -86,9 +84,9 @@ pub fn downsample_data(
         instants,
         frequencies,
     };
-    let mut areas = MeanAreas {
+    let mut areas = LentAreas::<1> {
         instants: mean_instants,
-        frequencies: mean_frequencies,
+        numbers: mean_frequencies,
     };
     Ok(write_means(&samples, &mut areas))
 }

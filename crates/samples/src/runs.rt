@@ -1,15 +1,15 @@
 // The means of a recording whose seconds never fall: run by run, each sample read a fixed number of times.
-ghost use Rattle.std.specs.Prelude.{◌≡◌, IfSome, ◌≤◌, ◌<◌, length};
+ghost use Rattle.std.specs.Prelude.{◌≡◌, IfSome, ◌+◌, ◌<◌, length};
 ghost use Rattle.std.specs.Int.Signed.{lt_z};
-ghost use Rattle.samples.specs.Means.{recording, whole_second, means};
+ghost use Rattle.samples.specs.Means.{whole_second};
+ghost use Rattle.checks.specs.Areas.{Room};
 ghost use Rattle.samples.specs.Sums.{StartsSecond, mean_at};
-ghost use Rattle.samples.specs.Written.{Room, MeanPut, MeansWritten};
+ghost use Rattle.samples.specs.Written.{MeanPut, MeansWritten};
 ghost use Rattle.samples.specs.Runs.{second_at, Begins, Run};
 
-use crate::mean_areas::MeanAreas;
 use crate::sorted::SortedRecording;
 use crate::sums::{in_second, run_mean, second_of, second_start};
-use checks::{CheckedInstant, Recording};
+use checks::{CheckedInstant, LentAreas, Recording};
 use units::Nanoseconds;
 
 // Whether the second of b is before that of a; where b itself is not before a it is not, which needs no division.
@@ -53,9 +53,9 @@ impl<'a> SortedRecording<'a> {
     }
 
     // Puts the mean of the run that begins there at one place of the areas; answers where the run ends.
-    fn write_run(&self, from: usize, place: usize, areas: &mut MeanAreas) -> usize
+    fn write_run(&self, from: usize, place: usize, areas: &mut LentAreas<1>) -> usize
         requires begins_run { (from < length self.now.recording.instants.now) × Begins self.now.recording.instants.now from }
-        requires place_in_bounds { (place < length areas.old.instants.now) × (place < length areas.old.frequencies.now) }
+        requires room { Room 1 (place + 1) areas.old }
         ensures run { Run self.now.recording.instants.now from result }
         ensures mean_put { MeanPut place (mean_at self.now.recording.instants.now self.now.recording.frequencies.now from)
             areas.old areas.new }
@@ -69,15 +69,16 @@ impl<'a> SortedRecording<'a> {
             instants: &samples.instants[from..end],
             frequencies: &samples.frequencies[from..end],
         };
-        areas.put(place, run_mean(&run));
+        let mean = run_mean(&run);
+        areas.instants[place] = mean.instant.0;
+        areas.numbers[place] = mean.frequency.0;
         end
     }
 
     // The means run by run: each sample is read a fixed number of times.
-    pub(crate) fn write_runs(&self, areas: &mut MeanAreas) -> usize
-        requires room { Room self.now.recording.instants.now areas.old }
-        ensures count { result ≡ length (means (recording self.now.recording.instants.now self.now.recording.frequencies.now)) }
-        ensures means_written { MeansWritten self.now.recording.instants.now self.now.recording.frequencies.now areas.old areas.new }
+    pub(crate) fn write_runs(&self, areas: &mut LentAreas<1>) -> usize
+        requires room { Room 1 (length self.now.recording.instants.now) areas.old }
+        ensures { MeansWritten self.now.recording result areas.old areas.new }
     {
         let mut count: usize = 0;
         let mut from: usize = 0;

@@ -6,5 +6,5 @@ pub mod Records
 pub mod Entries
 pub mod Rules
 pub mod Walks
-pub mod Written
 pub mod Cases
+pub mod Written

@@ -5,22 +5,25 @@ ghost use Rattle.sp3.specs.Entries.{unfit, read_sp3, sp3_instants, sp3_positions
 ghost use Rattle.sp3.specs.Walks.{refusal_by};
 
 use crate::header::{TimeSystem, body_of, system_of};
-use crate::record_areas::Areas;
 use crate::records::Reader;
-use checks::AXES;
+use checks::{AXES, LentAreas};
 use common::Refusal;
 use units::LeapSeconds;
 
 // Check 13: no record, or an area too short.
-fn is_unfit(n: usize, areas: &Areas) -> bool
-    ensures { result ≡ unfit n areas.now.instants.now areas.now.positions.now }
+fn is_unfit(n: usize, areas: &LentAreas<AXES>) -> bool
+    ensures { result ≡ unfit n areas.now.instants.now areas.now.numbers.now }
 {
-    n == 0 || areas.instants.len() < n || areas.positions.len() / AXES < n
+    n == 0 || areas.instants.len() < n || areas.numbers.len() / AXES < n
 }
 
 // The number of records found in a file whose header's lines begin as they must, unless it is refused.
-fn accepted(system: TimeSystem, found: Option<usize>, areas: &Areas) -> Result<usize, Refusal>
-    ensures refusal { refusal_of result ≡ refusal_by system found areas.now.instants.now areas.now.positions.now }
+fn accepted(
+    system: TimeSystem,
+    found: Option<usize>,
+    areas: &LentAreas<AXES>,
+) -> Result<usize, Refusal>
+    ensures refusal { refusal_of result ≡ refusal_by system found areas.now.instants.now areas.now.numbers.now }
     ensures value { IfOk result (λ n. found ≡ Some n) }
 {
     let count = found.ok_or(Refusal::Undescribed)?;
@@ -51,9 +54,9 @@ pub fn read_sp3(
         system: system_of(bytes, leap_seconds),
         satellite,
     };
-    let mut areas = Areas {
+    let mut areas = LentAreas::<AXES> {
         instants,
-        positions,
+        numbers: positions,
     };
     let count = accepted(reader.system, reader.look_over(body), &areas)?;
     reader.write_records(body, &mut areas);

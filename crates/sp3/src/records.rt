@@ -1,14 +1,16 @@
 // The lines behind the header in turn: looked at, and written.
-ghost use Rattle.std.specs.Prelude.{◌≡◌};
+ghost use Rattle.std.specs.Prelude.{◌≡◌, ◌+◌, length};
+ghost use Rattle.checks.specs.Limits.{axes};
+ghost use Rattle.checks.specs.Areas.{Room, Written};
 ghost use Rattle.sp3.specs.Columns.{line_of};
-ghost use Rattle.sp3.specs.Records.{kept_of};
+ghost use Rattle.sp3.specs.Records.{kept_of, instants_of, positions_of};
 ghost use Rattle.sp3.specs.Walks.{said_in, kept_in, looked_at};
-ghost use Rattle.sp3.specs.Written.{Room, RecordsPut, RecordsWritten};
+ghost use Rattle.sp3.specs.Written.{RecordsPut};
 
 use crate::header::TimeSystem;
 use crate::line::{Line, epoch_in, position_in};
 use crate::lines::Lines;
-use crate::record_areas::Areas;
+use checks::{AXES, LentAreas};
 use units::Nanoseconds;
 
 // Reads lines for one satellite, their instants by the file's time system.
@@ -19,12 +21,14 @@ pub(crate) struct Reader {
 }
 
 // The record of a line, if it has one, put at a place of the two areas.
-fn put(l: Line, t: Nanoseconds, place: usize, areas: &mut Areas)
-    requires room { Room place (kept_of l t.0) areas.old }
-    ensures put { RecordsPut place (kept_of l t.0) areas.old areas.new }
+fn put(l: Line, t: Nanoseconds, place: usize, areas: &mut LentAreas<AXES>)
+    requires room { Room axes (place + length (kept_of l t.0)) areas.old }
+    ensures { RecordsPut place (kept_of l t.0) areas.old areas.new }
 {
     if let Line::Located(p) = l {
-        areas.put(place, t, p);
+        areas.instants[place] = t.0;
+        let at = AXES * place;
+        areas.numbers[at..at + AXES].copy_from_slice(&[p.x, p.y, p.z]);
     }
 }
 
@@ -63,9 +67,10 @@ impl Reader {
     }
 
     // The records of the lines of a body, up to one that begins EOF, at the front of the two areas.
-    pub(crate) fn write_records(&self, body: &[u8], areas: &mut Areas)
-        requires room { Room 0 (kept_in self.now.system self.now.satellite body.now) areas.old }
-        ensures records_written { RecordsWritten (kept_in self.now.system self.now.satellite body.now) areas.old areas.new }
+    pub(crate) fn write_records(&self, body: &[u8], areas: &mut LentAreas<AXES>)
+        requires room { Room axes (length (kept_in self.now.system self.now.satellite body.now)) areas.old }
+        ensures { Written axes (instants_of (kept_in self.now.system self.now.satellite body.now))
+            (positions_of (kept_in self.now.system self.now.satellite body.now)) areas.old areas.new }
     {
         let mut t = Nanoseconds(0);
         let mut count: usize = 0;

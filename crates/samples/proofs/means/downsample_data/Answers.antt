@@ -14,12 +14,12 @@ pub write_means-requires : goal.write_means-requires
 write_means-requires c =
     let a = c.args in
     let fit = means_areas a.instants.now a.frequencies.now a.mean_instants.now a.mean_frequencies.now (sym c.in_ok-refuse_means.ensures) in
-    record { room = record { instants = fit.0; frequencies = fit.1 } }
+    record { room = record { instants = fit.0; numbers = omega (arith, fit.1) } }
 
 pub returns-clause-mean_instants_after : goal.returns-clause-mean_instants_after
 returns-clause-mean_instants_after c =
     let a = c.args in
-    let w = c.write_means.ensures.means_written in
+    let w = c.write_means.ensures.areas in
     let e = w.instants ∙ area-written 0 (downsample_refusal a.instants.now a.frequencies.now a.mean_instants.now a.mean_frequencies.now) (instants_of_means a.instants.now a.frequencies.now) a.mean_instants.now c.in_ok-refuse_means.ensures refl in
     let same = w.same.instants in
     search (rules, e, same)
@@ -27,7 +27,7 @@ returns-clause-mean_instants_after c =
 pub returns-clause-mean_frequencies_after : goal.returns-clause-mean_frequencies_after
 returns-clause-mean_frequencies_after c =
     let a = c.args in
-    let w = c.write_means.ensures.means_written in
-    let e = w.frequencies ∙ area-written 0 (downsample_refusal a.instants.now a.frequencies.now a.mean_instants.now a.mean_frequencies.now) (frequencies_of_means a.instants.now a.frequencies.now) a.mean_frequencies.now c.in_ok-refuse_means.ensures refl in
-    let same = w.same.frequencies in
+    let w = c.write_means.ensures.areas in
+    let e = w.numbers ∙ area-written 0 (downsample_refusal a.instants.now a.frequencies.now a.mean_instants.now a.mean_frequencies.now) (frequencies_of_means a.instants.now a.frequencies.now) a.mean_frequencies.now c.in_ok-refuse_means.ensures refl in
+    let same = w.same.numbers in
     grind (arith, e, same)

@@ -34,22 +34,18 @@ same : (ts copy rest : List ℤ) (fs copied-fs rest-fs : List Float) (ts' : List
 same ts copy rest fs copied-fs rest-fs ts' fs' n h k e q a =
     same-means (recording ts' fs') (recording ts fs) (alike ts (take n (copy ++ rest)) fs (take n (copied-fs ++ rest-fs)) ts' fs' (copied ts copy rest n h e) (copied fs copied-fs rest-fs n k q) a)
 
-pub returns-clause-count : goal.returns-clause-count
-returns-clause-count g c =
-    let s = c.args.samples.now in
-    let new = c.sort_by_seconds.new.self in
-    c.write_runs.ensures.count
-    ∙ ap length (same s.instants.now c.copy_from_slice.new.self _ s.frequencies.now c.copy_from_slice-2.new.self _ new.instants.now new.frequencies.now (length s.instants.now) (cc) s.checked.same c.copy_from_slice.ensures.after c.copy_from_slice-2.ensures.after c.sort_by_seconds.ensures.same_bins)
-
-pub returns-clause-means_written : goal.returns-clause-means_written
-returns-clause-means_written g c =
+pub returns : goal.returns
+returns g c =
     let s = c.args.samples.now in
     let new = c.sort_by_seconds.new.self in
     let old = c.args.areas.now in
     let e = same s.instants.now c.copy_from_slice.new.self _ s.frequencies.now c.copy_from_slice-2.new.self _ new.instants.now new.frequencies.now (length s.instants.now) (cc) s.checked.same c.copy_from_slice.ensures.after c.copy_from_slice-2.ensures.after c.sort_by_seconds.ensures.same_bins in
-    let w = c.write_runs.ensures.means_written in
+    let w = c.write_runs.ensures in
     record {
-      instants = w.instants ∙ ap (λ (S : List Sample). written (instants S) old.instants.now) e;
-      frequencies = w.frequencies ∙ ap (λ (S : List Sample). written (frequencies S) old.frequencies.now) e;
-      same = w.same;
+      many = w.many ∙ ap length e;
+      areas = record {
+        instants = w.areas.instants ∙ ap (λ (S : List Sample). written (instants S) old.instants.now) e;
+        numbers = w.areas.numbers ∙ ap (λ (S : List Sample). written (frequencies S) old.numbers.now) e;
+        same = w.areas.same;
+      };
     }

@@ -67,7 +67,7 @@ write_records-requires c =
     let a = c.args in
     let z = sym (c.in_ok-count.ensures.refusal ∙ ap (λ (o : Option ℕ). refusal_by c.system_of.result o a.instants.now a.positions.now) c.look_over.ensures) in
     let p = passed c.system_of.result (said_in c.system_of.result a.satellite c.in_ok-body.body.now) a.instants.now a.positions.now z in
-    record { room = record { instants = omega (arith, p.0); positions = omega (arith, p.1) } }
+    record { room = record { instants = omega (arith, p.0); numbers = omega (arith, p.1) } }
 
 pub returns : goal.returns
 returns c =
@@ -84,11 +84,11 @@ returns c =
     let same = records_same bs a.satellite a.leap_seconds rest system c.system_of.ensures body.1 in
     let none = z ∙ refusal-same bs a.satellite a.leap_seconds rest system c.system_of.ensures body.1 is ps body.0 in
     let many = same_Some _ _ (sym c.in_ok-count.ensures.value ∙ c.look_over.ensures ∙ p.2) in
-    let w = c.write_records.ensures.records_written in
+    let w = c.write_records.ensures in
     let ei = w.instants ∙ ap (λ (J : List Kept). written (instants_of J) is) same ∙ ap (λ (v : ℕ). area v (instants_of K) is) none in
-    let ep = w.positions ∙ ap (λ (J : List Kept). written (positions_of J) ps) same ∙ ap (λ (v : ℕ). area v (positions_of K) ps) none in
+    let ep = w.numbers ∙ ap (λ (J : List Kept). written (positions_of J) ps) same ∙ ap (λ (v : ℕ). area v (positions_of K) ps) none in
     let si = w.same.instants in
-    let sp = w.same.positions in
+    let sp = w.same.numbers in
     record {
       result_value = ap (outcome 0) (many ∙ ap length same) ∙ ap (λ (v : ℕ). outcome v (length K)) none;
       instants_after = search (rules, ei, si);
