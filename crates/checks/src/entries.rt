@@ -79,11 +79,7 @@ pub fn refuse_closest(
 ) -> Result<(), Refusal>
     ensures { refusal_of result ≡ first_failing (closest_checks instants.now positions.now observer instant.0) }
 {
-    refuse_if(miscounted(instants, positions), Refusal::Coordinates)?;
-    refuse_if(any_beyond(instants), Refusal::Instants)?;
-    refuse_if(beyond(instant), Refusal::Instants)?;
-    refuse_if(unrising(instants), Refusal::Order)?;
-    refuse_if(any_misplaced(positions), Refusal::Places)?;
+    refuse_propagation(instants, positions, instant)?;
     refuse_if(observer_misplaced(observer), Refusal::Places)
 }
 

@@ -24,7 +24,7 @@ pub invariant_of-sorted : goal.invariant_of-sorted
 invariant_of-sorted g c =
     let s = c.args.samples.now in
     let new = c.sort_by_seconds.new.self in
-    let long : length new.instants.now ≡ length s.instants.now = c.sort_by_seconds.ensures.length_stays ∙ ap length (copied s.instants.now c.copy_from_slice.new.self _ (length s.instants.now) (cc) c.copy_from_slice.ensures.after) in
+    let long : length new.instants.now ≡ length s.instants.now = c.sort_by_seconds.ensures.rearranged.length_stays ∙ ap length (copied s.instants.now c.copy_from_slice.new.self _ (length s.instants.now) (cc) c.copy_from_slice.ensures.after) in
     let some = s.checked.some in
     let few = s.checked.few in
     record { checked = record { some = omega arith; few = omega arith; same = new.frequencies_long; near = new.limited } }
@@ -39,7 +39,7 @@ returns g c =
     let s = c.args.samples.now in
     let new = c.sort_by_seconds.new.self in
     let old = c.args.areas.now in
-    let e = same s.instants.now c.copy_from_slice.new.self _ s.frequencies.now c.copy_from_slice-2.new.self _ new.instants.now new.frequencies.now (length s.instants.now) (cc) s.checked.same c.copy_from_slice.ensures.after c.copy_from_slice-2.ensures.after c.sort_by_seconds.ensures.same_bins in
+    let e = same s.instants.now c.copy_from_slice.new.self _ s.frequencies.now c.copy_from_slice-2.new.self _ new.instants.now new.frequencies.now (length s.instants.now) (cc) s.checked.same c.copy_from_slice.ensures.after c.copy_from_slice-2.ensures.after c.sort_by_seconds.ensures.rearranged.same_bins in
     let w = c.write_runs.ensures in
     record {
       many = w.many ∙ ap length e;
