@@ -41,7 +41,7 @@ pub(crate) fn in_second(t: i64, start: i64) -> bool
     requires { StartsSecond start }
     ensures { result ≡ eq_z (whole_second t) (whole_second start) }
 {
-    start <= t && t < start + SECOND
+    (start..start + SECOND).contains(&t)
 }
 
 // The sums over samples of one second, whose first gives the base.
