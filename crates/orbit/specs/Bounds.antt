@@ -1,5 +1,7 @@
 -- Inner: how far the search goes, so that every number fits its machine number.
-use Rattle.std.specs.Prelude.{ℕ, ◌+◌, ◌*◌, ◌≤◌, nat_abs}
+use Rattle.std.specs.Prelude.{ℕ, ◌+◌, ◌*◌, ◌≤◌, nat_abs, Float}
+use Rattle.std.specs.Float.{nan, inf, fin}
+use Rattle.std.specs.Coded.{le_prop}
 use Rattle.float.specs.Bounds.{Within}
 use Rattle.orbit.specs.declared.closest.Offsets.{Offsets}
 use Rattle.orbit.specs.declared.stages.Stage.{Stage}
@@ -45,3 +47,9 @@ pub record SmallStage (s : Stage) : Type 0 where
   pub start : Within farthest_start s.start.0
   pub increment : Within 1 s.increment.0
   pub steps : s.steps ≤ most_steps
+
+-- a double is that small in one way at most, so a ghost field may hold the fact
+pub Within-prop : (n : ℕ) (x : Float) → IsProp (Within n x)
+Within-prop n nan = λ h k. absurd h
+Within-prop n (inf s) = λ h k. absurd h
+Within-prop n (fin s m e) = le_prop

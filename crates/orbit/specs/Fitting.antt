@@ -30,7 +30,7 @@ residual_told (Some r) = residual r.0
 
 -- a candidate is a trial that has enough samples left
 abbrev pub trial_in : Candidate → Trial
-trial_in c = record { shift = c.shift.0; frequency_offset = c.frequency_offset.0; rmse = c.rmse.0; enough = true }
+trial_in c = record { shift = c.shift.seconds.0; frequency_offset = c.frequency_offset.0; rmse = c.rmse.0; enough = true }
 
 -- the best candidate, if there is one
 abbrev pub best_in : Option Candidate → Best

@@ -2,7 +2,6 @@
 ghost use Rattle.std.specs.Prelude.{◌≡◌, ◌+◌, ◌*◌, ◌≤◌, nat_abs, ℤ};
 ghost use Rattle.common.specs.Refusals.{told};
 ghost use Rattle.common.specs.Search.{better_of, first_best};
-ghost use Rattle.checks.specs.Limits.{farthest_instant};
 ghost use Rattle.orbit.specs.Bounds.{reach, farthest_offset};
 ghost use Rattle.orbit.specs.Place.{with_answer};
 ghost use Rattle.orbit.specs.Closest.{squared_range, moved_by_seconds, nearer, offset_at, ranged, ranges, closest_instant, find_pca_time};
@@ -10,7 +9,7 @@ ghost use Rattle.orbit.specs.Closest.{squared_range, moved_by_seconds, nearer, o
 use crate::place::Located;
 use crate::search::Search;
 use crate::tabulated::TabulatedOrbit;
-use checks::{OrbitTable, refuse_closest};
+use checks::{CheckedInstant, OrbitTable, refuse_closest};
 use common::Refusal;
 use float::LARGEST_FINITE;
 use units::{Nanoseconds, Observer, Position, SECOND};
@@ -53,11 +52,11 @@ fn squared_range(p: Position, o: Observer) -> f64
 }
 
 // An instant moved by whole seconds.
-fn moved_by_seconds(t: Nanoseconds, offset: i64) -> Nanoseconds
-    requires { (nat_abs t.0 ≤ farthest_instant) × (nat_abs offset ≤ farthest_offset) }
-    ensures { result.0 ≡ moved_by_seconds t.0 offset }
+fn moved_by_seconds(t: CheckedInstant, offset: i64) -> Nanoseconds
+    requires { nat_abs offset ≤ farthest_offset }
+    ensures { result.0 ≡ moved_by_seconds t.instant.0 offset }
 {
-    Nanoseconds(t.0 + offset * SECOND)
+    Nanoseconds(t.instant.0 + offset * SECOND)
 }
 
 impl Offsets {
@@ -76,7 +75,7 @@ impl Search<'_> {
         requires { nat_abs offset ≤ farthest_offset }
         ensures { result ≡ better_of nearer best
             (ranged self.now.orbit.tolerance self.now.orbit.table.instants.now self.now.orbit.table.positions.now
-            self.now.observer self.now.around.0 offset) }
+            self.now.observer self.now.around.instant.0 offset) }
     {
         let Ok(m) = self.orbit.propagate(moved_by_seconds(self.around, offset)) else {
             return best;
@@ -94,7 +93,7 @@ impl Search<'_> {
         requires { reach offsets ≤ farthest_offset }
         ensures { result ≡ first_best nearer start
             (ranges self.now.orbit.tolerance self.now.orbit.table.instants.now self.now.orbit.table.positions.now
-            self.now.observer self.now.around.0 offsets) }
+            self.now.observer self.now.around.instant.0 offsets) }
     {
         let mut best = start;
         // a fold's closure would owe the offset's bound at each call
@@ -107,10 +106,9 @@ impl Search<'_> {
 
 impl TabulatedOrbit<'_> {
     // The instant of the closest approach about an instant: by minutes, then by seconds.
-    pub(crate) fn closest(&self, observer: Observer, around: Nanoseconds) -> Nanoseconds
-        requires { nat_abs around.0 ≤ farthest_instant }
+    pub(crate) fn closest(&self, observer: Observer, around: CheckedInstant) -> Nanoseconds
         ensures { result.0 ≡ closest_instant self.now.tolerance
-            self.now.table.instants.now self.now.table.positions.now observer around.0 }
+            self.now.table.instants.now self.now.table.positions.now observer around.instant.0 }
     {
         let search = Search {
             orbit: *self,
@@ -151,7 +149,7 @@ pub fn find_pca_time(
         instants,
         positions,
     });
-    let answer = orbit.closest(observer, instant);
+    let answer = orbit.closest(observer, CheckedInstant { instant });
     let place = orbit.place_of(answer);
     Ok(Located { answer, place })
 }

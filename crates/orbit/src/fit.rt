@@ -9,7 +9,7 @@ ghost use Rattle.orbit.specs.Fitting.{inputs_by, sampled_by};
 
 use crate::fitting::Fitting;
 use crate::tabulated::TabulatedOrbit;
-use checks::{MOST_SAMPLES, OrbitTable, Recording, refuse_fit};
+use checks::{CheckedInstant, MOST_SAMPLES, OrbitTable, Recording, refuse_fit};
 use common::Refusal;
 use samples::gap_between;
 use units::{Hertz, Nanoseconds, Observer, Seconds};
@@ -41,14 +41,17 @@ impl<'t, 'r> Fitting<'t, 'r> {
         requires { nat_abs measured.instant.0 ≤ farthest_instant }
         ensures { told (λ (r : Report). r) result ≡ fit_of (inputs_by self.now) (sampled_by self.now) measured }
     {
-        let predicted = self.orbit.closest(self.observer, measured.instant);
+        let around = CheckedInstant {
+            instant: measured.instant,
+        };
+        let predicted = self.orbit.closest(self.observer, around);
         let centre = gap_between(predicted, measured.instant);
         let mut values = [0.0; MOST_SAMPLES];
         let best = self
             .best_candidate(centre, &mut values)
             .ok_or(Refusal::NoShift)?;
         Ok(Report {
-            clock_offset: best.shift,
+            clock_offset: best.shift.seconds,
             frequency_offset: best.frequency_offset,
             rmse: best.rmse,
             count: self.recording.instants.len(),

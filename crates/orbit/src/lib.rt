@@ -10,6 +10,7 @@ mod propagation;
 mod residuals;
 mod search;
 mod settings;
+mod shift;
 mod stages;
 mod tabulated;
 mod window;

@@ -1,32 +1,32 @@
 // The residuals of a recording under a shift of its clock, and their means; and how many of its instants lie outside the table then.
 ghost use Rattle.std.specs.Prelude.{◌≡◌, map, ◌<◌, ◌≤◌, pos, nat_abs, ◌-ℤ◌, ◌*ℤ◌, length, take};
-ghost use Rattle.float.specs.Bounds.{Within};
-ghost use Rattle.checks.specs.Limits.{farthest_instant, most_samples};
+ghost use Rattle.checks.specs.Limits.{most_samples};
 ghost use Rattle.common.specs.Time.{microsecond};
-ghost use Rattle.orbit.specs.Bounds.{farthest_shift, farthest_micros};
+ghost use Rattle.orbit.specs.Bounds.{farthest_micros};
 ghost use Rattle.orbit.specs.Residuals.{whole_microseconds, residual_at, residual_in, propagated_by};
 ghost use Rattle.orbit.specs.Residuals.{residuals, residual_of, outside_count, mean_over, squared_deviation};
 ghost use Rattle.orbit.specs.Fitting.{inputs_by, sampled_by, residual_told};
 
 use crate::fitting::Fitting;
 use crate::propagation::Motion;
-use checks::MOST_SAMPLES;
+use crate::shift::Shift;
+use checks::{CheckedInstant, MOST_SAMPLES};
 use float::{nearest, sqrt, truncated};
-use units::{Hertz, LIGHT_SPEED, MICROSECOND, Nanoseconds, SECOND_MICROSECONDS, Seconds};
+use units::{Hertz, LIGHT_SPEED, MICROSECOND, Nanoseconds, SECOND_MICROSECONDS};
 
 // A shift as whole microseconds, toward zero.
-fn microseconds_of(shift: Seconds) -> i64
-    ensures { result ≡ whole_microseconds shift.0 }
+fn microseconds_of(shift: Shift) -> i64
+    ensures { (result ≡ whole_microseconds shift.seconds.0) × (nat_abs result ≤ farthest_micros) }
 {
-    truncated(shift.0 * SECOND_MICROSECONDS)
+    truncated(shift.seconds.0 * SECOND_MICROSECONDS)
 }
 
 // An instant moved earlier by whole microseconds.
-fn moved_earlier(t: Nanoseconds, micros: i64) -> Nanoseconds
-    requires { (nat_abs t.0 ≤ farthest_instant) × (nat_abs micros ≤ farthest_micros) }
-    ensures { result.0 ≡ t.0 -ℤ micros *ℤ pos microsecond }
+fn moved_earlier(t: CheckedInstant, micros: i64) -> Nanoseconds
+    requires { nat_abs micros ≤ farthest_micros }
+    ensures { result.0 ≡ t.instant.0 -ℤ micros *ℤ pos microsecond }
 {
-    Nanoseconds(t.0 - micros * MICROSECOND)
+    Nanoseconds(t.instant.0 - micros * MICROSECOND)
 }
 
 // The mean of values, summed in their order from −0.0.
@@ -72,21 +72,17 @@ impl<'t, 'r> Fitting<'t, 'r> {
     }
 
     // The residuals of the samples under a shift, in hertz, at the front of `values`, and how many there are.
-    pub(crate) fn collect_residuals(
-        &self,
-        shift: Seconds,
-        values: &mut [f64; MOST_SAMPLES],
-    ) -> usize
-        requires { Within farthest_shift shift.0 }
+    pub(crate) fn collect_residuals(&self, shift: Shift, values: &mut [f64; MOST_SAMPLES]) -> usize
         ensures { (result ≤ length self.now.recording.instants.now) × (take result values.new
-            ≡ residuals (residual_of (inputs_by self.now) shift.0) (sampled_by self.now)) }
+            ≡ residuals (residual_of (inputs_by self.now) shift.seconds.0) (sampled_by self.now)) }
     {
         let micros = microseconds_of(shift);
         let mut count: usize = 0;
         let recording = self.recording;
         // `count` is how many are filled, not which sample it is: one without a position takes no place
         for (t, f) in recording.instants.iter().zip(recording.frequencies) {
-            let moved = moved_earlier(Nanoseconds(*t), micros);
+            let instant = Nanoseconds(*t);
+            let moved = moved_earlier(CheckedInstant { instant }, micros);
             if let Some(residual) = self.residual(moved, Hertz(*f)) {
                 values[count] = residual.0;
                 count += 1;
@@ -97,15 +93,15 @@ impl<'t, 'r> Fitting<'t, 'r> {
 
     // How many of the samples' instants, moved earlier by a shift as the fit moved them, lie outside the table, whether they have a position there
     // or not.
-    pub(crate) fn count_outside(&self, shift: Seconds) -> usize
-        requires { Within farthest_shift shift.0 }
-        ensures { result ≡ outside_count (inputs_by self.now).instants self.now.recording.instants.now shift.0 }
+    pub(crate) fn count_outside(&self, shift: Shift) -> usize
+        ensures { result ≡ outside_count (inputs_by self.now).instants self.now.recording.instants.now shift.seconds.0 }
     {
         let micros = microseconds_of(shift);
         let mut count: usize = 0;
         // a filter's closure would owe each instant's bound
         for t in self.recording.instants {
-            let moved = moved_earlier(Nanoseconds(*t), micros);
+            let instant = Nanoseconds(*t);
+            let moved = moved_earlier(CheckedInstant { instant }, micros);
             if self.orbit.place_of(moved).is_outside() {
                 count += 1;
             }

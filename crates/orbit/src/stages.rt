@@ -3,12 +3,13 @@ ghost use Rattle.std.specs.Prelude.{◌≡◌, ◌≤◌};
 ghost use Rattle.std.specs.Float.Ieee.{lt};
 ghost use Rattle.float.specs.Bounds.{Within};
 ghost use Rattle.common.specs.Search.{better_of};
-ghost use Rattle.orbit.specs.Bounds.{SmallStage, farthest_centre, farthest_shift, most_steps};
+ghost use Rattle.orbit.specs.Bounds.{SmallStage, farthest_centre, most_steps};
 ghost use Rattle.orbit.specs.Fit.{shift_at, rmse_of, smaller, first_least, coarse, shifts};
 ghost use Rattle.orbit.specs.Fitting.{trial_by, candidate_of, best_in, after_stage, stage_about};
 
 use crate::fitting::Fitting;
 use crate::residuals::{mean_of, mean_square_off};
+use crate::shift::Shift;
 use checks::MOST_SAMPLES;
 use float::{LARGEST_FINITE, magnitude, nearest, sqrt};
 use units::{Hertz, Seconds};
@@ -56,7 +57,7 @@ pub(crate) struct Stage {
 // A shift under which enough samples are left, their frequency offset and the RMSE of their residuals.
 #[derive(Clone, Copy)]
 pub(crate) struct Candidate {
-    pub(crate) shift: Seconds,
+    pub(crate) shift: Shift,
     pub(crate) frequency_offset: Hertz,
     pub(crate) rmse: Hertz,
 }
@@ -74,11 +75,13 @@ impl Stage {
     }
 
     // The shift at a step.
-    fn shift_at(&self, step: u64) -> Seconds
-        requires { step ≤ most_steps }
-        ensures { result.0 ≡ shift_at self.now step }
+    fn shift_at(&self, step: u64) -> Shift
+        requires { SmallStage self.now × (step ≤ most_steps) }
+        ensures { result.seconds.0 ≡ shift_at self.now step }
     {
-        Seconds(self.start.0 + nearest(step as i64) * self.increment.0)
+        Shift {
+            seconds: Seconds(self.start.0 + nearest(step as i64) * self.increment.0),
+        }
     }
 }
 
@@ -95,17 +98,19 @@ impl Candidate {
 fn better(best: Option<Candidate>, later: Option<Candidate>) -> Option<Candidate>
     ensures { best_in result ≡ better_of smaller (best_in best) (best_in later) }
 {
-    match later {
-        Some(c) if c.beats(best) => later,
-        _ => best,
+    if let Some(c) = later
+        && c.beats(best)
+    {
+        later
+    } else {
+        best
     }
 }
 
 impl<'t, 'r> Fitting<'t, 'r> {
     // The candidate of a shift; none where half the samples or fewer are left.
-    fn candidate(&self, shift: Seconds, values: &mut [f64; MOST_SAMPLES]) -> Option<Candidate>
-        requires { Within farthest_shift shift.0 }
-        ensures { best_in result ≡ candidate_of (trial_by self.now shift.0) }
+    fn candidate(&self, shift: Shift, values: &mut [f64; MOST_SAMPLES]) -> Option<Candidate>
+        ensures { best_in result ≡ candidate_of (trial_by self.now shift.seconds.0) }
     {
         let count = self.collect_residuals(shift, values);
         if count <= self.recording.instants.len() / 2 {
@@ -162,7 +167,11 @@ impl<'t, 'r> Fitting<'t, 'r> {
         ensures { best_in result ≡ first_least (trial_by self.now) (shifts (trial_by self.now) centre.0) }
     {
         let coarse = self.coarse(centre, values)?;
-        let fine = self.run_stage(Stage::about(coarse.shift, FINE), Some(coarse), values)?;
-        self.run_stage(Stage::about(fine.shift, MICRO), Some(fine), values)
+        let fine = self.run_stage(
+            Stage::about(coarse.shift.seconds, FINE),
+            Some(coarse),
+            values,
+        )?;
+        self.run_stage(Stage::about(fine.shift.seconds, MICRO), Some(fine), values)
     }
 }

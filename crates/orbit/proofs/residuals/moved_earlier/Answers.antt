@@ -13,21 +13,21 @@ use Rattle.orbit.proofs.residuals.moved_earlier.Goals.{Start}
 pub overflow_mul-result : goal.overflow_mul-result
 overflow_mul-result c =
     let product : back c.args.micros *ℤ pos microsecond ≡ c.args.micros *ℤ pos microsecond = ap (λ (z : ℤ). z *ℤ pos microsecond) (to_z-of_z w64 c.args.micros c.ranges.micros) in
-    subst (SFits w64) (sym product) (micros_fit c.args.micros c.requires.1)
+    subst (SFits w64) (sym product) (micros_fit c.args.micros c.requires)
 
 pub overflow_sub-result : goal.overflow_sub-result
 overflow_sub-result c =
     let product : back c.args.micros *ℤ pos microsecond ≡ c.args.micros *ℤ pos microsecond = ap (λ (z : ℤ). z *ℤ pos microsecond) (to_z-of_z w64 c.args.micros c.ranges.micros) in
-    let difference : back c.args.t.0 -ℤ back (back c.args.micros *ℤ pos microsecond) ≡ (c.args.t.0 -ℤ c.args.micros *ℤ pos microsecond) =
-    ap₂ ◌-ℤ◌ (near_is c.args.t.0 c.requires.0) (ap back product ∙ to_z-of_z w64 (c.args.micros *ℤ pos microsecond) (micros_fit c.args.micros c.requires.1)) in
-    let earlier_fits : SFits w64 ((c.args.t.0 -ℤ c.args.micros *ℤ pos microsecond)) = moved-fits c.args.t.0 c.args.micros c.requires.0 c.requires.1 in
+    let difference : back c.args.t.instant.0 -ℤ back (back c.args.micros *ℤ pos microsecond) ≡ (c.args.t.instant.0 -ℤ c.args.micros *ℤ pos microsecond) =
+    ap₂ ◌-ℤ◌ (near_is c.args.t.instant.0 c.args.t.near) (ap back product ∙ to_z-of_z w64 (c.args.micros *ℤ pos microsecond) (micros_fit c.args.micros c.requires)) in
+    let earlier_fits : SFits w64 ((c.args.t.instant.0 -ℤ c.args.micros *ℤ pos microsecond)) = moved-fits c.args.t.instant.0 c.args.micros c.args.t.near c.requires in
     subst (SFits w64) (sym difference) earlier_fits
 
 pub returns : goal.returns
 returns c =
     let product : back c.args.micros *ℤ pos microsecond ≡ c.args.micros *ℤ pos microsecond = ap (λ (z : ℤ). z *ℤ pos microsecond) (to_z-of_z w64 c.args.micros c.ranges.micros) in
-    let difference : back c.args.t.0 -ℤ back (back c.args.micros *ℤ pos microsecond) ≡ (c.args.t.0 -ℤ c.args.micros *ℤ pos microsecond) =
-    ap₂ ◌-ℤ◌ (near_is c.args.t.0 c.requires.0) (ap back product ∙ to_z-of_z w64 (c.args.micros *ℤ pos microsecond) (micros_fit c.args.micros c.requires.1)) in
-    let earlier = c.args.t.0 -ℤ c.args.micros *ℤ pos microsecond in
-    let earlier_fits : SFits w64 ((c.args.t.0 -ℤ c.args.micros *ℤ pos microsecond)) = moved-fits c.args.t.0 c.args.micros c.requires.0 c.requires.1 in
+    let difference : back c.args.t.instant.0 -ℤ back (back c.args.micros *ℤ pos microsecond) ≡ (c.args.t.instant.0 -ℤ c.args.micros *ℤ pos microsecond) =
+    ap₂ ◌-ℤ◌ (near_is c.args.t.instant.0 c.args.t.near) (ap back product ∙ to_z-of_z w64 (c.args.micros *ℤ pos microsecond) (micros_fit c.args.micros c.requires)) in
+    let earlier = c.args.t.instant.0 -ℤ c.args.micros *ℤ pos microsecond in
+    let earlier_fits : SFits w64 ((c.args.t.instant.0 -ℤ c.args.micros *ℤ pos microsecond)) = moved-fits c.args.t.instant.0 c.args.micros c.args.t.near c.requires in
     ap back difference ∙ to_z-of_z w64 earlier earlier_fits

@@ -22,15 +22,15 @@ pub run_stage-requires : goal.run_stage-requires
 unfolding of_bits
 run_stage-requires c =
     let found = c.in_ok-coarse in
-    let near : Within farthest_coarse found.coarse.shift.0 = subst (BestWithin farthest_coarse) (sym found.ensures) (coarse-small (trial_by c.args.self.now) (shift_is _ _) c.args.centre.0 c.requires) in
-    subst SmallStage (sym c.about.ensures) (fine_fits found.coarse.shift.0 near)
+    let near : Within farthest_coarse found.coarse.shift.seconds.0 = subst (BestWithin farthest_coarse) (sym found.ensures) (coarse-small (trial_by c.args.self.now) (shift_is _ _) c.args.centre.0 c.requires) in
+    subst SmallStage (sym c.about.ensures) (fine_fits found.coarse.shift.seconds.0 near)
 
 pub returns-in_err-fine : goal.returns-in_err-fine
 unfolding of_bits
 returns-in_err-fine c =
     let try = trial_by c.args.self.now in
     let start = best_in (Some c.in_ok-coarse.coarse) in
-    absurd (never_lost try (fine_stage c.in_ok-coarse.coarse.shift.0) _ (c.in_err-fine.ensures ∙ ap (λ (x : Stage). after_stage try x start) c.about.ensures))
+    absurd (never_lost try (fine_stage c.in_ok-coarse.coarse.shift.seconds.0) _ (c.in_err-fine.ensures ∙ ap (λ (x : Stage). after_stage try x start) c.about.ensures))
 
 pub run_stage-requires-2 : goal.run_stage-requires-2
 unfolding of_bits
@@ -39,10 +39,10 @@ run_stage-requires-2 c =
     let coarse = c.in_ok-coarse.coarse in
     let fine = c.in_ok-fine.fine in
     let start = best_in (Some coarse) in
-    let near : Within farthest_coarse coarse.shift.0 = subst (BestWithin farthest_coarse) (sym c.in_ok-coarse.ensures) (coarse-small try (shift_is _ _) c.args.centre.0 c.requires) in
-    let after : best_in (Some fine) ≡ after_stage try (fine_stage coarse.shift.0) start = c.in_ok-fine.ensures ∙ ap (λ (x : Stage). after_stage try x start) c.about.ensures in
-    let near_fine : Within farthest_fine fine.shift.0 = subst (BestWithin farthest_fine) (sym after) (fine_small try (shift_is _ _) (trial_in coarse) near) in
-    subst SmallStage (sym c.about-2.ensures) (micro_fits fine.shift.0 near_fine)
+    let near : Within farthest_coarse coarse.shift.seconds.0 = subst (BestWithin farthest_coarse) (sym c.in_ok-coarse.ensures) (coarse-small try (shift_is _ _) c.args.centre.0 c.requires) in
+    let after : best_in (Some fine) ≡ after_stage try (fine_stage coarse.shift.seconds.0) start = c.in_ok-fine.ensures ∙ ap (λ (x : Stage). after_stage try x start) c.about.ensures in
+    let near_fine : Within farthest_fine fine.shift.seconds.0 = subst (BestWithin farthest_fine) (sym after) (fine_small try (shift_is _ _) (trial_in coarse) near) in
+    subst SmallStage (sym c.about-2.ensures) (micro_fits fine.shift.seconds.0 near_fine)
 
 pub returns : goal.returns
 unfolding of_bits
@@ -51,7 +51,7 @@ returns c =
     let coarse = c.in_ok-coarse.coarse in
     let fine = c.in_ok-fine.fine in
     let start = best_in (Some coarse) in
-    let after : best_in (Some fine) ≡ after_stage try (fine_stage coarse.shift.0) start = c.in_ok-fine.ensures ∙ ap (λ (x : Stage). after_stage try x start) c.about.ensures in
+    let after : best_in (Some fine) ≡ after_stage try (fine_stage coarse.shift.seconds.0) start = c.in_ok-fine.ensures ∙ ap (λ (x : Stage). after_stage try x start) c.about.ensures in
     c.run_stage-2.ensures
     ∙ ap (λ (x : Stage). after_stage try x (best_in (Some fine))) c.about-2.ensures
     ∙ all_stages try c.args.centre.0 (trial_in coarse) (trial_in fine) c.in_ok-coarse.ensures after

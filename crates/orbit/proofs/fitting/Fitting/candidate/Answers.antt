@@ -18,7 +18,7 @@ returns-then-count-self c =
     let ys = take call.result call.new.values in
     let all = record_length r.instants.now r.frequencies.now r.checked.same in
     let many : length ys ≡ call.result = length_front call.new.values call.result (omega (arith, call.ensures.0, call.array_long, r.checked.few)) in
-    too_few (residual_of (inputs_by f)) (sampled_by f) c.args.shift.0 ys call.ensures.1 (omega (arith, all, many, c.if-count-self.true))
+    too_few (residual_of (inputs_by f)) (sampled_by f) c.args.shift.seconds.0 ys call.ensures.1 (omega (arith, all, many, c.if-count-self.true))
 
 pub returns : goal.returns
 returns c =
@@ -28,4 +28,4 @@ returns c =
     let ys = take call.result call.new.values in
     let all = record_length r.instants.now r.frequencies.now r.checked.same in
     let many : length ys ≡ call.result = length_front call.new.values call.result (omega (arith, call.ensures.0, call.array_long, r.checked.few)) in
-    enough (residual_of (inputs_by f)) (sampled_by f) c.args.shift.0 ys call.ensures.1 c.mean_of-mean.result c.sqrt.result (omega (arith, all, many, c.if-count-self.false)) c.mean_of-mean.ensures (c.sqrt.ensures ∙ ap (root binary64) c.mean_square_off.ensures)
+    enough (residual_of (inputs_by f)) (sampled_by f) c.args.shift.seconds.0 ys call.ensures.1 c.mean_of-mean.result c.sqrt.result (omega (arith, all, many, c.if-count-self.false)) c.mean_of-mean.ensures (c.sqrt.ensures ∙ ap (root binary64) c.mean_square_off.ensures)

@@ -13,11 +13,9 @@ use borrow.Author.Rules.{rules}
 use Rattle.common.specs.Time.{microsecond}
 use Rattle.checks.specs.Limits.{farthest_instant}
 use Rattle.samples.specs.Means.{recording}
-use Rattle.orbit.specs.Bounds.{farthest_micros}
 use Rattle.orbit.specs.Residuals.{whole_microseconds, skipped, residual, residual_in, residuals, propagated_by}
 use Rattle.orbit.specs.Fitting.{inputs_by, sampled_by}
 use Rattle.orbit.proofs.Collected.{one_residual, no_residual, residuals_end, pushed}
-use Rattle.orbit.proofs.Shifts.{microseconds_small}
 use Rattle.orbit.proofs.Offsets.{back, near_is}
 use Rattle.orbit.proofs.fitting.Fitting.collect_residuals.Invariants.{residual_by}
 use Rattle.orbit.proofs.fitting.Fitting.collect_residuals.Goals as goal
@@ -37,16 +35,11 @@ loop-t-init c =
       made = rw (first, second);
     }
 
-pub moved_earlier-moved-requires : goal.moved_earlier-moved-requires
-moved_earlier-moved-requires c =
+pub invariant_of-moved_earlier : goal.invariant_of-moved_earlier
+invariant_of-moved_earlier c =
     let x = c.in-Some.t.now in
-    let s = c.in-Some.ensures.steps in
-    let near : nat_abs x ≤ farthest_instant = rw s.0 at c.loop-t.invariant.near 0 in
-    let micros = c.microseconds_of-micros in
-    let micros_are : back micros.result ≡ whole_microseconds c.args.shift.0 = to_z-of_z w64 micros.result (record { sfits = micros.type_inv }) ∙ micros.ensures in (
-      subst (λ (z : ℤ). nat_abs z ≤ farthest_instant) (sym (near_is x near)) near,
-      subst (λ (z : ℤ). nat_abs z ≤ farthest_micros) (sym micros_are) (microseconds_small c.args.shift.0 c.requires),
-    )
+    let near : nat_abs x ≤ farthest_instant = rw c.in-Some.ensures.steps.0 at c.loop-t.invariant.near 0 in
+    record { near = subst (λ (z : ℤ). nat_abs z ≤ farthest_instant) (sym (near_is x near)) near }
 
 pub loop-t-preserved-in-Some-residual : goal.loop-t-preserved-in-Some-residual
 loop-t-preserved-in-Some-residual c =
@@ -100,7 +93,7 @@ returns c =
     let at = c.loop-t in
     let i = inputs_by self in
     let micros = c.microseconds_of-micros in
-    let micros_are : back micros.result ≡ whole_microseconds c.args.shift.0 = to_z-of_z w64 micros.result (record { sfits = micros.type_inv }) ∙ micros.ensures in
+    let micros_are : back micros.result ≡ whole_microseconds c.args.shift.seconds.0 = to_z-of_z w64 micros.result (record { sfits = micros.type_inv }) ∙ micros.ensures.0 in
     let ss = at.t-iterator.a.rest.now in
     let bs = at.t-iterator.b.rest.now in
     let ended : (length ss ≡ 0) ⊎ (length bs ≡ 0) = elim c.in-None.ensures.steps [ inl w ↦ inl w.1.0 | inr w ↦ inr w.1.0 ] in (

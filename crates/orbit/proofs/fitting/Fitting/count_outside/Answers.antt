@@ -1,33 +1,19 @@
 -- Those counted so far and those of the samples that are left make up those of all the samples. Assumes nothing.
-use mathlib.Core.Path.{◌≡◌, sym, ap, ◌∙◌, subst}
-use Prim.Native.Nat.{◌≤◌}
+use mathlib.Core.Path.{◌≡◌, sym, ap, ◌∙◌}
 use native.Mathlib.Omega.{arith}
-use lib.IntN.{ℤ, pos, nat_abs, ◌-ℤ◌, ◌*ℤ◌}
+use lib.IntN.{ℤ, pos, ◌-ℤ◌, ◌*ℤ◌}
 use lib.ListN.{get_or}
 use mir.Syntax.{w64}
 use mir.ValLaws.{to_z-of_z}
 use Rattle.common.specs.Time.{microsecond}
 use Rattle.common.specs.Lists.{how_many}
-use Rattle.checks.specs.Limits.{farthest_instant}
-use Rattle.orbit.specs.Bounds.{farthest_micros}
 use Rattle.orbit.specs.Place.{place_of, is_outside}
 use Rattle.orbit.specs.Residuals.{whole_microseconds}
 use Rattle.orbit.proofs.Collected.{counted_yes, counted_no, counted_end}
-use Rattle.orbit.proofs.Shifts.{microseconds_small}
 use Rattle.orbit.proofs.Offsets.{back, near_is}
 use Rattle.orbit.proofs.fitting.Fitting.count_outside.Invariants.{outside_by}
 use Rattle.orbit.proofs.fitting.Fitting.count_outside.Goals as goal
 use Rattle.orbit.proofs.fitting.Fitting.count_outside.Goals.{else-is_outside, then-is_outside}
-
-pub moved_earlier-moved-requires : goal.moved_earlier-moved-requires
-moved_earlier-moved-requires c =
-    let x = get_or c.args.self.now.recording.instants.now c.loop-t.t-index (pos 0) in
-    let near = c.args.self.now.recording.checked.near c.loop-t.t-index in
-    let micros = c.microseconds_of-micros in
-    let micros_are : back micros.result ≡ whole_microseconds c.args.shift.0 = to_z-of_z w64 micros.result (record { sfits = micros.type_inv }) ∙ micros.ensures in (
-      subst (λ (z : ℤ). nat_abs z ≤ farthest_instant) (sym (near_is x near)) near,
-      subst (λ (z : ℤ). nat_abs z ≤ farthest_micros) (sym micros_are) (microseconds_small c.args.shift.0 c.requires),
-    )
 
 pub loop-t-preserved : goal.loop-t-preserved
 loop-t-preserved c =
@@ -49,7 +35,7 @@ returns c =
     let self = c.args.self.now in
     let at = c.loop-t in
     let micros = c.microseconds_of-micros in
-    let micros_are : back micros.result ≡ whole_microseconds c.args.shift.0 = to_z-of_z w64 micros.result (record { sfits = micros.type_inv }) ∙ micros.ensures in
+    let micros_are : back micros.result ≡ whole_microseconds c.args.shift.seconds.0 = to_z-of_z w64 micros.result (record { sfits = micros.type_inv }) ∙ micros.ensures.0 in
     let p = outside_by self.orbit.table.instants.now in
     sym (counted_end (p (back micros.result)) self.recording.instants.now at.t-index at.count (omega arith))
     ∙ at.invariant.1

@@ -18,14 +18,11 @@ use Rattle.samples.proofs.Recordings.{record_length, record_instants}
 use Rattle.orbit.specs.declared.fit.Measured.{Measured}
 use Rattle.orbit.specs.declared.fit.Report.{Report}
 use Rattle.orbit.specs.declared.stages.Candidate.{Candidate}
-use Rattle.orbit.specs.Bounds.{farthest_centre, farthest_shift}
+use Rattle.orbit.specs.Bounds.{farthest_centre}
 use Rattle.orbit.specs.Residuals.{outside_count}
 use Rattle.orbit.specs.Fit.{Trial, Best, none_yet, found, first_least, shifts, Basis, basis_of, report_of_trial, report_of_best, fit_by_trials, centre_of}
 use Rattle.orbit.specs.Fitting.{inputs_by, trial_by, trial_in, best_in}
-use Rattle.orbit.proofs.Trials.{shift_is}
-use Rattle.orbit.proofs.Updates.{BestWithin}
 use Rattle.orbit.proofs.Centre.{centre-small}
-use Rattle.orbit.proofs.Finish.{least_small}
 use Rattle.orbit.proofs.fitting.Fitting.fit_about.Goals as goal
 
 -- the outcome by the best of all candidates
@@ -59,16 +56,6 @@ returns-in_err-best c =
     let refusal = c.in_err-best.ensures.value ∙ ap (λ (o : Option Candidate). ok_or o NoShift) none in
     let err : c.from_residual.result ≡ Err NoShift = search rules in
     ap (told (λ (x : Report). x)) err ∙ outcome_is try (basis_of i.instants (recording r.instants.now r.frequencies.now) c.args.measured) (centre_of i t) none_yet least
-
-pub count_outside-requires : goal.count_outside-requires
-count_outside-requires c =
-    let self = c.args.self.now in
-    let o = self.orbit in
-    let try = trial_by self in
-    let t = c.args.measured.instant.0 in
-    let centre = c.gap_between-centre.ensures ∙ ap (λ (z : ℤ). gap_of z t) c.closest-predicted.ensures in
-    let least = sym (ap best_in c.in_ok-best.ensures.ok_part) ∙ c.best_candidate.ensures ∙ ap (λ (x : Float). first_least try (shifts try x)) centre in
-    subst (BestWithin farthest_shift) (sym least) (least_small try (shift_is _ _) (centre_of (inputs_by self) t) (centre-small o.tolerance o.table.instants.now o.table.positions.now self.observer t))
 
 pub returns : goal.returns
 returns c =

@@ -1,16 +1,13 @@
--- The best so far and the trials that are left make up the whole stage; every shift of it is small. Assumes nothing.
-use mathlib.Core.Path.{◌≡◌, sym, ap, ◌∙◌, subst}
+-- The best so far and the trials that are left make up the whole stage. Assumes nothing.
+use mathlib.Core.Path.{◌≡◌, sym, ap, ◌∙◌}
 use Prim.Native.Nat.{◌+◌, ◌-◌, ◌<◌}
 use native.Mathlib.Omega.{arith}
 use lib.Ieee.{Float}
-use Rattle.float.specs.Bounds.{Within}
 use Rattle.common.specs.Lists.{list_of}
 use Rattle.common.specs.Search.{better_of, first_best}
 use Rattle.common.proofs.Search.{search_step, search_end}
-use Rattle.orbit.specs.Bounds.{farthest_start, farthest_shift, most_steps}
 use Rattle.orbit.specs.Fit.{Best, smaller, shift_at}
 use Rattle.orbit.specs.Fitting.{trial_by, best_in, candidate_of}
-use Rattle.orbit.proofs.Shifts.{stage_within, weaken}
 use Rattle.orbit.proofs.Trials.{by_candidate}
 use Rattle.orbit.proofs.Updates.{at_step, by_steps}
 use Rattle.orbit.proofs.fitting.Fitting.run_stage.Goals as goal
@@ -21,15 +18,6 @@ loop-step-init c =
     let stage = c.args.stage in
     let e : stage.steps - 0 ≡ stage.steps = omega arith in
     rw e (ap (first_best smaller (best_in c.args.best)) (sym (by_steps (trial_by c.args.self.now) stage)))
-
-pub candidate-later-requires : goal.candidate-later-requires
-candidate-later-requires c =
-    let stage = c.args.stage in
-    let step = c.loop-step.step in
-    let h = c.requires in
-    let inside : step < stage.steps = omega arith in
-    subst (Within farthest_shift) (sym c.shift_at.ensures)
-    (weaken (farthest_start + most_steps) farthest_shift (shift_at stage step) (omega arith) (stage_within farthest_start stage step (omega arith) (omega (arith, inside, h.steps)) h.start h.increment))
 
 pub loop-step-preserved : goal.loop-step-preserved
 loop-step-preserved c =

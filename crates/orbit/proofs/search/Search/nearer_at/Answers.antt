@@ -11,5 +11,5 @@ pub returns-in_default : goal.returns-in_default
 returns-in_default c =
     let a = c.args in
     let s = a.self.now in
-    let moved = c.moved_by_seconds.ensures ∙ ap (moved_by_seconds s.around.0) (to_z-of_z w64 a.offset c.ranges.offset) in
+    let moved = c.moved_by_seconds.ensures ∙ ap (moved_by_seconds s.around.instant.0) (to_z-of_z w64 a.offset c.ranges.offset) in
     nearer-refused s.observer c.propagate.result _ c.in_default.field-0 a.offset a.best (c.propagate.ensures ∙ ap (propagated s.orbit.tolerance s.orbit.table.instants.now s.orbit.table.positions.now) moved) c.in_default.is

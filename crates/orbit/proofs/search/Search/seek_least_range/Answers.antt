@@ -15,10 +15,10 @@ loop-k-preserved c =
     let a = c.args in
     let s = a.self.now in
     let at = c.loop-k in
-    let ranged_at_k = ranged_at s.orbit.tolerance s.orbit.table.instants.now s.orbit.table.positions.now s.observer s.around.0 a.offsets in
+    let ranged_at_k = ranged_at s.orbit.tolerance s.orbit.table.instants.now s.orbit.table.positions.now s.observer s.around.instant.0 a.offsets in
     let offset : to_z w64 (of_z w64 c.offset_at.result) ≡ offset_at a.offsets at.k = to_z-of_z w64 c.offset_at.result (record { sfits = c.offset_at.type_inv }) ∙ c.offset_at.ensures in
     let turned : c.nearer_at-best.result ≡ better_of nearer at.best (ranged_at_k at.k) =
-    c.nearer_at-best.ensures ∙ ap (λ (z : ℤ). better_of nearer at.best (ranged s.orbit.tolerance s.orbit.table.instants.now s.orbit.table.positions.now s.observer s.around.0 z)) offset in
+    c.nearer_at-best.ensures ∙ ap (λ (z : ℤ). better_of nearer at.best (ranged s.orbit.tolerance s.orbit.table.instants.now s.orbit.table.positions.now s.observer s.around.instant.0 z)) offset in
     rw turned (search_step nearer ranged_at_k a.offsets.count at.k at.best (omega arith) ∙ at.invariant)
 
 pub returns : goal.returns
@@ -26,4 +26,4 @@ returns c =
     let a = c.args in
     let s = a.self.now in
     let at = c.loop-k in
-    sym (search_end nearer (ranged_at s.orbit.tolerance s.orbit.table.instants.now s.orbit.table.positions.now s.observer s.around.0 a.offsets) a.offsets.count at.k at.best (omega arith)) ∙ at.invariant
+    sym (search_end nearer (ranged_at s.orbit.tolerance s.orbit.table.instants.now s.orbit.table.positions.now s.observer s.around.instant.0 a.offsets) a.offsets.count at.k at.best (omega arith)) ∙ at.invariant

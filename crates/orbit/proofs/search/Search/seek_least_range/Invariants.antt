@@ -9,6 +9,6 @@ use Rattle.orbit.proofs.search.Search.seek_least_range.Given as goal
 abbrev pub invariant-loop-k : goal.invariant-loop-k
 invariant-loop-k l =
     let s = l.fn.self in
-    let at = ranged_at s.orbit.tolerance s.orbit.table.instants.now s.orbit.table.positions.now s.observer s.around.0 l.fn.offsets in
+    let at = ranged_at s.orbit.tolerance s.orbit.table.instants.now s.orbit.table.positions.now s.observer s.around.instant.0 l.fn.offsets in
     let n = l.fn.offsets.count in
     first_best nearer l.best (list_of at (n - l.k) l.k) ≡ first_best nearer l.fn.start (list_of at n 0)

@@ -64,31 +64,31 @@ pub overflow_sub-seconds : goal.overflow_sub-seconds
 unfolding of_bits
 overflow_sub-seconds c =
     let s = c.args.self.now in
-    subst (SFits w64) (sym (difference s.tolerance s.table.instants.now s.table.positions.now c.args.observer c.args.around.0 c.seek_least_range-by_minutes.result c.seek_least_range-by_minutes.ensures))
-    (first_fits s.tolerance s.table.instants.now s.table.positions.now c.args.observer c.args.around.0 c.seek_least_range-by_minutes.result c.seek_least_range-by_minutes.ensures)
+    subst (SFits w64) (sym (difference s.tolerance s.table.instants.now s.table.positions.now c.args.observer c.args.around.instant.0 c.seek_least_range-by_minutes.result c.seek_least_range-by_minutes.ensures))
+    (first_fits s.tolerance s.table.instants.now s.table.positions.now c.args.observer c.args.around.instant.0 c.seek_least_range-by_minutes.result c.seek_least_range-by_minutes.ensures)
 
 pub seek_least_range-by_seconds-requires : goal.seek_least_range-by_seconds-requires
 unfolding of_bits
 seek_least_range-by_seconds-requires c =
     let s = c.args.self.now in
-    let small = first_small s.tolerance s.table.instants.now s.table.positions.now c.args.observer c.args.around.0 c.seek_least_range-by_minutes.result c.seek_least_range-by_minutes.ensures in
-    let first = first_is s.tolerance s.table.instants.now s.table.positions.now c.args.observer c.args.around.0 c.seek_least_range-by_minutes.result c.seek_least_range-by_minutes.ensures in
+    let small = first_small s.tolerance s.table.instants.now s.table.positions.now c.args.observer c.args.around.instant.0 c.seek_least_range-by_minutes.result c.seek_least_range-by_minutes.ensures in
+    let first = first_is s.tolerance s.table.instants.now s.table.positions.now c.args.observer c.args.around.instant.0 c.seek_least_range-by_minutes.result c.seek_least_range-by_minutes.ensures in
     subst (λ (z : ℤ). nat_abs z + 121 ≤ farthest_offset) (sym first) (omega (arith, small))
 
 pub moved_by_seconds-requires : goal.moved_by_seconds-requires
 unfolding of_bits
 moved_by_seconds-requires c =
     let s = c.args.self.now in
-    let small = found_small s.tolerance s.table.instants.now s.table.positions.now c.args.observer c.args.around.0 c.seek_least_range-by_minutes.result c.seek_least_range-by_minutes.ensures
+    let small = found_small s.tolerance s.table.instants.now s.table.positions.now c.args.observer c.args.around.instant.0 c.seek_least_range-by_minutes.result c.seek_least_range-by_minutes.ensures
     c.seek_least_range-by_seconds.result c.seek_least_range-by_seconds.ensures in
-    let found = found_is s.tolerance s.table.instants.now s.table.positions.now c.args.observer c.args.around.0 c.seek_least_range-by_minutes.result c.seek_least_range-by_minutes.ensures
+    let found = found_is s.tolerance s.table.instants.now s.table.positions.now c.args.observer c.args.around.instant.0 c.seek_least_range-by_minutes.result c.seek_least_range-by_minutes.ensures
     c.seek_least_range-by_seconds.result c.seek_least_range-by_seconds.ensures in
-    (c.requires, subst (λ (z : ℤ). nat_abs z ≤ farthest_offset) (sym found) small)
+    subst (λ (z : ℤ). nat_abs z ≤ farthest_offset) (sym found) small
 
 pub returns : goal.returns
 unfolding of_bits
 returns c =
     let s = c.args.self.now in
     c.moved_by_seconds.ensures
-    ∙ moved_is s.tolerance s.table.instants.now s.table.positions.now c.args.observer c.args.around.0 c.seek_least_range-by_minutes.result c.seek_least_range-by_minutes.ensures
+    ∙ moved_is s.tolerance s.table.instants.now s.table.positions.now c.args.observer c.args.around.instant.0 c.seek_least_range-by_minutes.result c.seek_least_range-by_minutes.ensures
     c.seek_least_range-by_seconds.result c.seek_least_range-by_seconds.ensures
