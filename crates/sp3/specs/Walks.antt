@@ -1,7 +1,9 @@
 -- Inner: what the functions behind the entry work out: the lines of a body, one after the other.
 use Rattle.std.specs.Prelude.{ℕ, ◌+◌, Bool, true, false, cond, not, ◌&&◌, ◌||◌, Option, None, Some, List, [], ◌∷◌, ◌++◌, map, ℤ, pos, length, take, drop, Float}
 use Rattle.sp3.specs.declared.header.TimeSystem.{TimeSystem}
+use Rattle.units.specs.declared.Nanoseconds.{Nanoseconds}
 use Rattle.sp3.specs.declared.line.Line.{Line}
+use Rattle.sp3.specs.declared.line.Line.TheVariants.{Epoch, Wrong}
 use Rattle.sp3.specs.Lines.{lines}
 use Rattle.sp3.specs.Columns.{line_of}
 use Rattle.sp3.specs.Records.{Kept, body, is_wrong, is_epoch, is_position, faulty, kept}
@@ -10,6 +12,11 @@ use Rattle.sp3.specs.Entries.{is_missing, is_other, unfit}
 -- some values put at a place of an area, the rest of it untouched
 abbrev pub put_at : {A : Type 0} → ℕ → List A → List A → List A
 put_at at values old = take at old ++ (values ++ drop (at + length values) old)
+
+-- an epoch line by its instant, if it has one
+abbrev pub epoch_told : Option Nanoseconds → Line
+epoch_told None = Wrong
+epoch_told (Some t) = Epoch t
 
 -- whether an epoch line has stood, at a line or before it
 abbrev pub begun : Line → Bool → Bool

@@ -1,13 +1,13 @@
 // What one line behind the header says.
 ghost use Rattle.std.specs.Prelude.{◌≡◌, ◌≤◌, ◌<◌, unwrap_or, pos, length};
 ghost use Rattle.sp3.specs.declared.line.Line.TheVariants.{Wrong};
-ghost use Rattle.sp3.specs.Columns.{whole, pointed, epoch_at, epoch_without_instant, epoch_under, epoch_in};
+ghost use Rattle.sp3.specs.Columns.{whole, pointed, epoch_under, epoch_in};
 ghost use Rattle.sp3.specs.Columns.{coordinate_end, metres_of, absent, position_of, position_in};
 ghost use Rattle.sp3.specs.Records.{instant_after, kept_of};
-ghost use Rattle.sp3.specs.Walks.{begun, fault_at};
+ghost use Rattle.sp3.specs.Walks.{begun, fault_at, epoch_told};
 
 use crate::header::TimeSystem;
-use calendar::{Calendar, InstantError};
+use calendar::Calendar;
 use decimal::Number;
 use units::{Metres, Nanoseconds, Position};
 
@@ -80,38 +80,20 @@ fn pointed_in(line: &[u8], first: usize, point: usize, last: usize, signed: bool
     decimal::decimal_of(line.get(first - 1..last)?, point - first, signed)
 }
 
-// The epoch of an instant.
-fn epoch_at(instant: Result<Nanoseconds, InstantError>) -> Line
-    ensures { result ≡ epoch_at instant }
-{
-    instant.map_or(Line::Wrong, Line::Epoch)
-}
-
-// The epoch of a date and time of which no instant is worked out.
-fn epoch_without_instant(c: Calendar) -> Line
-    ensures { result ≡ epoch_without_instant c }
-{
-    if calendar::is_real(c) {
-        // no instant is worked out here, and no record goes out with this one: the definition has 0 in its place
-        Line::Epoch(Nanoseconds(0))
-    } else {
-        Line::Wrong
-    }
-}
-
-// The epoch of a date and time under a time system.
-fn epoch_under(system: TimeSystem, c: Calendar) -> Line
-    ensures { result ≡ epoch_under system c }
+// The instant of a date and time under a time system, if it has one.
+fn epoch_under(system: TimeSystem, c: Calendar) -> Option<Nanoseconds>
+    ensures { epoch_told result ≡ epoch_under system c }
 {
     match system {
-        TimeSystem::Less(leap_seconds) => epoch_at(calendar::instant_of(c, leap_seconds)),
-        TimeSystem::Other | TimeSystem::Missing => epoch_without_instant(c),
+        TimeSystem::Less(leap_seconds) => calendar::instant_of(c, leap_seconds).ok(),
+        // no instant is worked out here, and no record goes out with this one: the definition has 0 in its place
+        TimeSystem::Other | TimeSystem::Missing => calendar::is_real(c).then_some(Nanoseconds(0)),
     }
 }
 
-// What an epoch line says, if each of its fields is a number. The columns hold so few digits that the casts lose none.
-pub(crate) fn epoch_in(line: &[u8], system: TimeSystem) -> Option<Line>
-    ensures { unwrap_or result Wrong ≡ epoch_in system line.now }
+// The instant of an epoch line, if each of its fields is a number and they have one. The columns hold so few digits that the casts lose none.
+pub(crate) fn epoch_in(line: &[u8], system: TimeSystem) -> Option<Nanoseconds>
+    ensures { epoch_told result ≡ epoch_in system line.now }
 {
     let year = whole_in(line, 4, 7)?;
     let month = whole_in(line, 9, 10)?;
@@ -129,7 +111,7 @@ pub(crate) fn epoch_in(line: &[u8], system: TimeSystem) -> Option<Line>
         second: (second.digits / STEPS_IN_SECOND) as u8,
         nanosecond: (second.digits % STEPS_IN_SECOND * NANOSECONDS_IN_STEP) as u32,
     };
-    Some(epoch_under(system, c))
+    epoch_under(system, c)
 }
 
 // A coordinate in metres, of its millionths of a kilometre: fewer than 2^53 are a double exactly, so only the division rounds.

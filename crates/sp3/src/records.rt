@@ -38,7 +38,7 @@ impl Reader {
         ensures { result ≡ line_of self.now.system self.now.satellite line.now }
     {
         match line {
-            [b'*', ..] => epoch_in(line, self.system).unwrap_or(Line::Wrong),
+            [b'*', ..] => epoch_in(line, self.system).map_or(Line::Wrong, Line::Epoch),
             [b'P', rest @ ..] if rest.starts_with(&self.satellite) => position_in(line).unwrap_or(
                 Line::Wrong,
             ),
