@@ -1,11 +1,8 @@
-// The board, answered from the words of a case. An entry is five words: its satellite, its instant, and the bits of its three doubles.
+// The entries of a board, of the words of a case. An entry is five words: its satellite, its instant, and the bits of its three doubles.
 use crate::numbers::double;
-use crate::printer::Answer;
 use crate::words::Words;
 use board::{Entry, MOST_ENTRIES};
-use std::alloc::Global;
-use std::io;
-use std::io::Write;
+use std::alloc::{AllocError, Global};
 use units::{Hertz, Nanoseconds, Seconds};
 
 // How many words an entry has.
@@ -29,31 +26,14 @@ fn entry_of(words: &[u64]) -> Option<Entry> {
     })
 }
 
-// The entries of a slice of words, five in each; none where one is no entry.
-fn entries_of(alloc: Global, words: &[u64]) -> io::Result<Option<Vec<Entry>>> {
-    let mut entries = Vec::new(alloc);
-    for five in words.chunks(ENTRY_WORDS) {
-        let Some(entry) = entry_of(five) else {
-            return Ok(None);
-        };
-        entries.push(entry)?;
-    }
-    Ok(Some(entries))
-}
-
-// `fleet_board ENTRIES`: the refusal alone, or 0 and the board's clock offset. Nothing is put where the words are no case of it.
-pub(crate) fn fleet_board(
+// The entries of a line whose words are one slice of them, five words in each; none where they are not, or where they are too many.
+pub(crate) fn entries_of(
     alloc: Global,
-    out: &mut impl Write,
     words: &mut Words,
-) -> io::Result<bool> {
+) -> Result<Option<Vec<Entry>>, AllocError> {
     let slice = words.slice();
     if !words.has_left(0) || slice.len() > MOST_WORDS {
-        return Ok(false);
+        return Ok(None);
     }
-    let Some(entries) = entries_of(alloc, slice)? else {
-        return Ok(false);
-    };
-    board::fleet_board(&entries).put(out)?;
-    Ok(true)
+    slice.chunks(ENTRY_WORDS).map(entry_of).collect(alloc)
 }

@@ -1,15 +1,17 @@
 // The entries, each found by its name: the library is called with what the words say, its answer put, and said whether the words were a case of the
 // entry; where they were not, the answer means nothing.
-// One more entry is one more arm in `answer`, by its name, and a function.
-use crate::boards::fleet_board;
+// One more entry is one more arm in `answer`, by its name, and a method.
+ghost use Rattle.std.specs.Prelude.{◌≡◌, ◌+◌, length, IfOk, IfSome, IsSomeAnd};
+
+use crate::boards::entries_of;
 use crate::numbers::double;
 use crate::printer::{Answer, put_all};
 use crate::words::Words;
 use checks::MOST_SAMPLES;
 use orbit::ChebyshevOrbit;
-use std::alloc::Global;
-use std::io;
+use std::alloc::{AllocError, Global};
 use std::io::Write;
+use std::{array, io};
 use units::{Hertz, LeapSeconds, Nanoseconds, Seconds};
 
 // How many elements an area may have: one for each sample of the longest recording, and a few behind them. The stored files have fewer positions.
@@ -18,54 +20,11 @@ const AREA: usize = MOST_SAMPLES + 8;
 // How many bytes an orbit file may have.
 const FILE: usize = 1024;
 
-// Has the entry of this name answer, and says whether the words were a case of it.
-pub(crate) fn answer(
-    alloc: Global,
-    out: &mut impl Write,
-    name: &[u8],
-    words: &mut Words,
-) -> io::Result<bool> {
-    match name {
-        b"sqrt" => float::sqrt(words.double()).put(out)?,
-        b"nearest" => float::nearest(words.whole()).put(out)?,
-        b"truncated" => float::truncated(words.double()).put(out)?,
-        b"evaluate_chebyshev" => evaluate_chebyshev(out, words)?,
-        b"invert_matrix_10" => invert_matrix_10(out, words)?,
-        b"get_chebyshev_model" => get_chebyshev_model(alloc, out, words)?,
-        b"propagate_ecef" => propagate_ecef(alloc, out, words)?,
-        b"evaluate" => evaluate(out, words)?,
-        b"find_pca_time" => find_pca_time(alloc, out, words)?,
-        b"downsample_data" => return downsample_data(alloc, out, words),
-        b"estimate_measured_pca_time" => estimate_measured_pca_time(alloc, out, words)?,
-        b"steepest_slope" => steepest_slope(alloc, out, words)?,
-        b"estimate_slant_range" => estimate_slant_range(out, words)?,
-        b"fit_satellite" => fit_satellite(alloc, out, words)?,
-        b"pass" => return pass(alloc, out, words),
-        b"read_sp3" => return read_sp3(alloc, out, words),
-        b"fleet_board" => return fleet_board(alloc, out, words),
-        _ => return Ok(false),
-    }
-    Ok(words.has_left(0))
-}
-
 // The two areas that an entry fills. Their lengths are the last two words of the line, and before the call they hold markers.
 #[derive(Drop)]
 struct Areas {
     instants: Vec<i64>,
     numbers: Vec<f64>,
-}
-
-// The areas of a line, where neither is too long.
-fn areas_of(alloc: Global, words: &Words) -> io::Result<Option<Areas>> {
-    let m = words.from_end(2) as usize;
-    let n = words.from_end(1) as usize;
-    if m > AREA || n > AREA {
-        return Ok(None);
-    }
-    Ok(Some(Areas {
-        instants: vec![in alloc; 0x1111_1111_1111_1111i64; m]?,
-        numbers: vec![in alloc; double(0x4444_4444_4444_4444); n]?,
-    }))
 }
 
 // Both areas, whole.
@@ -76,185 +35,238 @@ impl Answer for Areas {
     }
 }
 
-// `evaluate_chebyshev C0..C9 TAU`: the sum and its slope.
-fn evaluate_chebyshev(out: &mut impl Write, words: &mut Words) -> io::Result<()> {
-    let coefficients = words.ten_doubles();
-    let tau = words.double();
-    chebyshev::evaluate_chebyshev(coefficients, tau).put(out)
-}
-
-// `invert_matrix_10 A00..A99`: the refusal alone, or 0 and the hundred cells of the inverse.
-fn invert_matrix_10(out: &mut impl Write, words: &mut Words) -> io::Result<()> {
-    let mut rows = [[0.0; 10]; 10];
-    for row in rows.iter_mut() {
-        *row = words.ten_doubles();
-    }
-    chebyshev::invert_matrix_10(rows).put(out)
-}
-
-// `get_chebyshev_model INSTANTS POSITIONS INSTANT`: the refusal alone, or 0 and the model.
-fn get_chebyshev_model(alloc: Global, out: &mut impl Write, words: &mut Words) -> io::Result<()> {
-    let instants = words.wholes(alloc)?;
-    let positions = words.doubles(alloc)?;
-    let instant = Nanoseconds(words.whole());
-    orbit::get_chebyshev_model(&instants, &positions, instant).put(out)
-}
-
-// `propagate_ecef INSTANTS POSITIONS INSTANT`: the refusal alone, or 0 with the position, the velocity and the place.
-fn propagate_ecef(alloc: Global, out: &mut impl Write, words: &mut Words) -> io::Result<()> {
-    let instants = words.wholes(alloc)?;
-    let positions = words.doubles(alloc)?;
-    let instant = Nanoseconds(words.whole());
-    orbit::propagate_ecef(&instants, &positions, instant).put(out)
-}
-
-// `evaluate T0 T9 CX CY CZ INSTANT`: the refusal alone, or 0 with the position and the velocity.
-fn evaluate(out: &mut impl Write, words: &mut Words) -> io::Result<()> {
-    let t0 = Seconds(words.double());
-    let t9 = Seconds(words.double());
-    let cx = words.ten_doubles();
-    let cy = words.ten_doubles();
-    let cz = words.ten_doubles();
-    let instant = Nanoseconds(words.whole());
-    orbit::evaluate(ChebyshevOrbit { t0, t9, cx, cy, cz }, instant).put(out)
-}
-
-// `find_pca_time INSTANTS POSITIONS OX OY OZ INSTANT`: the refusal alone, or 0, the instant and its place.
-fn find_pca_time(alloc: Global, out: &mut impl Write, words: &mut Words) -> io::Result<()> {
-    let instants = words.wholes(alloc)?;
-    let positions = words.doubles(alloc)?;
-    let observer = words.observer();
-    let instant = Nanoseconds(words.whole());
-    orbit::find_pca_time(&instants, &positions, observer, instant).put(out)
-}
-
-// `estimate_measured_pca_time INSTANTS FREQUENCIES`: the refusal alone, or 0 and the instant.
-fn estimate_measured_pca_time(
-    alloc: Global,
-    out: &mut impl Write,
-    words: &mut Words,
-) -> io::Result<()> {
-    let instants = words.wholes(alloc)?;
-    let frequencies = words.doubles(alloc)?;
-    samples::estimate_measured_pca_time(&instants, &frequencies).put(out)
-}
-
-// `steepest_slope INSTANTS FREQUENCIES`: the refusal alone, or 0 and the slope.
-fn steepest_slope(alloc: Global, out: &mut impl Write, words: &mut Words) -> io::Result<()> {
-    let instants = words.wholes(alloc)?;
-    let frequencies = words.doubles(alloc)?;
-    samples::steepest_slope(&instants, &frequencies).put(out)
-}
-
-// `estimate_slant_range F0 SLOPE`: the range.
-fn estimate_slant_range(out: &mut impl Write, words: &mut Words) -> io::Result<()> {
-    let f0 = Hertz(words.double());
-    let slope = words.double();
-    samples::estimate_slant_range(f0, slope).0.put(out)
-}
-
-// `fit_satellite INSTANTS POSITIONS SAMPLES FREQUENCIES OX OY OZ F0 INSTANT`: the refusal alone, or 0 and the report.
-fn fit_satellite(alloc: Global, out: &mut impl Write, words: &mut Words) -> io::Result<()> {
-    let instants = words.wholes(alloc)?;
-    let positions = words.doubles(alloc)?;
-    let recorded = words.wholes(alloc)?;
-    let frequencies = words.doubles(alloc)?;
-    let observer = words.observer();
-    let f0 = Hertz(words.double());
-    let measured = Nanoseconds(words.whole());
-    orbit::fit_satellite(
-        &instants,
-        &positions,
-        &recorded,
-        &frequencies,
-        observer,
-        f0,
-        measured,
-    )
-    .put(out)
-}
-
-// `pass INSTANTS POSITIONS SAMPLES FREQUENCIES OX OY OZ F0 LENGTH LENGTH`: the refusal, or 0 and the report; the areas follow.
-fn pass(alloc: Global, out: &mut impl Write, words: &mut Words) -> io::Result<bool> {
-    let Some(mut areas) = areas_of(alloc, words)? else {
-        return Ok(false);
-    };
-    let instants = words.wholes(alloc)?;
-    let positions = words.doubles(alloc)?;
-    let recorded = words.wholes(alloc)?;
-    let frequencies = words.doubles(alloc)?;
-    let observer = words.observer();
-    let f0 = Hertz(words.double());
-    orbit::pass(
-        &instants,
-        &positions,
-        &recorded,
-        &frequencies,
-        observer,
-        f0,
-        &mut areas.instants,
-        &mut areas.numbers,
-    )
-    .put(out)?;
-    areas.put(out)?;
-    Ok(words.has_left(2))
-}
-
-// `downsample_data INSTANTS FREQUENCIES LENGTH LENGTH`: the refusal, or 0 and the count; the areas follow.
-fn downsample_data(alloc: Global, out: &mut impl Write, words: &mut Words) -> io::Result<bool> {
-    let Some(mut areas) = areas_of(alloc, words)? else {
-        return Ok(false);
-    };
-    let instants = words.wholes(alloc)?;
-    let frequencies = words.doubles(alloc)?;
-    samples::downsample_data(
-        &instants,
-        &frequencies,
-        &mut areas.instants,
-        &mut areas.numbers,
-    )
-    .put(out)?;
-    areas.put(out)?;
-    Ok(words.has_left(2))
-}
-
 // The three bytes of a satellite, the first one lowest.
 fn satellite_of(word: u64) -> [u8; 3] {
     let [first, second, third, ..] = word.to_le_bytes();
     [first, second, third]
 }
 
-// The bytes of an orbit file, the slice and how many there are being next; none where they are too many.
-fn file_of(alloc: Global, words: &mut Words) -> io::Result<Option<Vec<u8>>> {
-    let stored = *words;
-    let _slice = words.slice();
-    let count = words.word() as usize;
-    if count > FILE {
-        return Ok(None);
-    }
-    Ok(Some(stored.bytes_behind(alloc, count)?))
+// A line that may be a case: its words, and where its answer goes. What an entry needs of memory is asked of `alloc`.
+#[derive(Drop)]
+pub(crate) struct Case<'a, W> {
+    pub(crate) alloc: Global,
+    pub(crate) out: &'a mut W,
+    pub(crate) words: Words<'a>,
 }
 
-// `read_sp3 FILE BYTES SATELLITE LEAP_SECONDS LENGTH LENGTH`: the refusal, or 0 and the count; the areas follow. Leap seconds that 16 bits do not hold are
-// none.
-fn read_sp3(alloc: Global, out: &mut impl Write, words: &mut Words) -> io::Result<bool> {
-    let Some(mut areas) = areas_of(alloc, words)? else {
-        return Ok(false);
-    };
-    let Some(file) = file_of(alloc, words)? else {
-        areas.put(out)?;
-        return Ok(false);
-    };
-    let satellite = satellite_of(words.word());
-    let leap = LeapSeconds(i16::try_from(words.whole()).unwrap_or(0));
-    sp3::read_sp3(
-        &file,
-        satellite,
-        leap,
-        &mut areas.instants,
-        &mut areas.numbers,
-    )
-    .put(out)?;
-    areas.put(out)?;
-    Ok(words.has_left(2))
+impl<W: Write> Case<'_, W> {
+    // Has the entry of this name answer, and says whether the words were a case of it.
+    pub(crate) fn answer(&mut self, name: &[u8]) -> io::Result<bool> {
+        match name {
+            b"sqrt" => float::sqrt(self.words.double()).put(self.out)?,
+            b"nearest" => float::nearest(self.words.whole()).put(self.out)?,
+            b"truncated" => float::truncated(self.words.double()).put(self.out)?,
+            b"evaluate_chebyshev" => self.evaluate_chebyshev()?,
+            b"invert_matrix_10" => self.invert_matrix_10()?,
+            b"get_chebyshev_model" => self.get_chebyshev_model()?,
+            b"propagate_ecef" => self.propagate_ecef()?,
+            b"evaluate" => self.evaluate()?,
+            b"find_pca_time" => self.find_pca_time()?,
+            b"downsample_data" => return self.downsample_data(),
+            b"estimate_measured_pca_time" => self.estimate_measured_pca_time()?,
+            b"steepest_slope" => self.steepest_slope()?,
+            b"estimate_slant_range" => self.estimate_slant_range()?,
+            b"fit_satellite" => self.fit_satellite()?,
+            b"pass" => return self.pass(),
+            b"read_sp3" => return self.read_sp3(),
+            b"fleet_board" => return self.fleet_board(),
+            _ => return Ok(false),
+        }
+        Ok(self.words.has_left(0))
+    }
+
+    // The next two slices: instants, and a number or more for each.
+    fn series(&mut self) -> Result<(Vec<i64>, Vec<f64>), AllocError>
+        // Where the line has both, they and their lengths are the words that are taken.
+        ensures { IfOk result (λ read. IfSome self.new.words.own (λ rest. IsSomeAnd self.old.words.own (λ own.
+            length own.now ≡ length read.0.items + length read.1.items + length rest.now + 2))) }
+    {
+        let instants = self.words.slice();
+        let numbers = self.words.slice();
+        let instants = instants.iter().map(|word| word.cast_signed());
+        let numbers = numbers.iter().map(|word| double(*word));
+        Ok((instants.collect(self.alloc)?, numbers.collect(self.alloc)?))
+    }
+
+    // The areas of the line, where neither is too long.
+    fn areas(&self) -> io::Result<Option<Areas>> {
+        let m = self.words.from_end(1) as usize;
+        let n = self.words.from_end(0) as usize;
+        if m > AREA || n > AREA {
+            return Ok(None);
+        }
+        Ok(Some(Areas {
+            instants: vec![in self.alloc; 0x1111_1111_1111_1111i64; m]?,
+            numbers: vec![in self.alloc; double(0x4444_4444_4444_4444); n]?,
+        }))
+    }
+
+    // The bytes of an orbit file, the slice and how many there are being next; none where they are too many.
+    fn file(&mut self) -> io::Result<Option<Vec<u8>>> {
+        let stored = self.words;
+        let _slice = self.words.slice();
+        let count = self.words.word() as usize;
+        if count > FILE {
+            return Ok(None);
+        }
+        Ok(Some(stored.bytes_behind(self.alloc, count)?))
+    }
+
+    // `evaluate_chebyshev C0..C9 TAU`: the sum and its slope.
+    fn evaluate_chebyshev(&mut self) -> io::Result<()> {
+        let coefficients = self.words.ten_doubles();
+        let tau = self.words.double();
+        chebyshev::evaluate_chebyshev(coefficients, tau).put(self.out)
+    }
+
+    // `invert_matrix_10 A00..A99`: the refusal alone, or 0 and the hundred cells of the inverse.
+    fn invert_matrix_10(&mut self) -> io::Result<()> {
+        let rows = array::from_fn(|_| self.words.ten_doubles());
+        chebyshev::invert_matrix_10(rows).put(self.out)
+    }
+
+    // `get_chebyshev_model INSTANTS POSITIONS INSTANT`: the refusal alone, or 0 and the model.
+    fn get_chebyshev_model(&mut self) -> io::Result<()> {
+        let (instants, positions) = self.series()?;
+        let instant = Nanoseconds(self.words.whole());
+        orbit::get_chebyshev_model(&instants, &positions, instant).put(self.out)
+    }
+
+    // `propagate_ecef INSTANTS POSITIONS INSTANT`: the refusal alone, or 0 with the position, the velocity and the place.
+    fn propagate_ecef(&mut self) -> io::Result<()> {
+        let (instants, positions) = self.series()?;
+        let instant = Nanoseconds(self.words.whole());
+        orbit::propagate_ecef(&instants, &positions, instant).put(self.out)
+    }
+
+    // `evaluate T0 T9 CX CY CZ INSTANT`: the refusal alone, or 0 with the position and the velocity.
+    fn evaluate(&mut self) -> io::Result<()> {
+        let t0 = Seconds(self.words.double());
+        let t9 = Seconds(self.words.double());
+        let cx = self.words.ten_doubles();
+        let cy = self.words.ten_doubles();
+        let cz = self.words.ten_doubles();
+        let instant = Nanoseconds(self.words.whole());
+        orbit::evaluate(ChebyshevOrbit { t0, t9, cx, cy, cz }, instant).put(self.out)
+    }
+
+    // `find_pca_time INSTANTS POSITIONS OX OY OZ INSTANT`: the refusal alone, or 0, the instant and its place.
+    fn find_pca_time(&mut self) -> io::Result<()> {
+        let (instants, positions) = self.series()?;
+        let observer = self.words.observer();
+        let instant = Nanoseconds(self.words.whole());
+        orbit::find_pca_time(&instants, &positions, observer, instant).put(self.out)
+    }
+
+    // `estimate_measured_pca_time INSTANTS FREQUENCIES`: the refusal alone, or 0 and the instant.
+    fn estimate_measured_pca_time(&mut self) -> io::Result<()> {
+        let (instants, frequencies) = self.series()?;
+        samples::estimate_measured_pca_time(&instants, &frequencies).put(self.out)
+    }
+
+    // `steepest_slope INSTANTS FREQUENCIES`: the refusal alone, or 0 and the slope.
+    fn steepest_slope(&mut self) -> io::Result<()> {
+        let (instants, frequencies) = self.series()?;
+        samples::steepest_slope(&instants, &frequencies).put(self.out)
+    }
+
+    // `estimate_slant_range F0 SLOPE`: the range.
+    fn estimate_slant_range(&mut self) -> io::Result<()> {
+        let f0 = Hertz(self.words.double());
+        let slope = self.words.double();
+        samples::estimate_slant_range(f0, slope).0.put(self.out)
+    }
+
+    // `fit_satellite INSTANTS POSITIONS SAMPLES FREQUENCIES OX OY OZ F0 INSTANT`: the refusal alone, or 0 and the report.
+    fn fit_satellite(&mut self) -> io::Result<()> {
+        let (instants, positions) = self.series()?;
+        let (recorded, frequencies) = self.series()?;
+        let observer = self.words.observer();
+        let f0 = Hertz(self.words.double());
+        let measured = Nanoseconds(self.words.whole());
+        orbit::fit_satellite(
+            &instants,
+            &positions,
+            &recorded,
+            &frequencies,
+            observer,
+            f0,
+            measured,
+        )
+        .put(self.out)
+    }
+
+    // `pass INSTANTS POSITIONS SAMPLES FREQUENCIES OX OY OZ F0 LENGTH LENGTH`: the refusal, or 0 and the report; the areas follow.
+    fn pass(&mut self) -> io::Result<bool> {
+        let Some(mut areas) = self.areas()? else {
+            return Ok(false);
+        };
+        let (instants, positions) = self.series()?;
+        let (recorded, frequencies) = self.series()?;
+        let observer = self.words.observer();
+        let f0 = Hertz(self.words.double());
+        orbit::pass(
+            &instants,
+            &positions,
+            &recorded,
+            &frequencies,
+            observer,
+            f0,
+            &mut areas.instants,
+            &mut areas.numbers,
+        )
+        .put(self.out)?;
+        areas.put(self.out)?;
+        Ok(self.words.has_left(2))
+    }
+
+    // `downsample_data INSTANTS FREQUENCIES LENGTH LENGTH`: the refusal, or 0 and the count; the areas follow.
+    fn downsample_data(&mut self) -> io::Result<bool> {
+        let Some(mut areas) = self.areas()? else {
+            return Ok(false);
+        };
+        let (instants, frequencies) = self.series()?;
+        samples::downsample_data(
+            &instants,
+            &frequencies,
+            &mut areas.instants,
+            &mut areas.numbers,
+        )
+        .put(self.out)?;
+        areas.put(self.out)?;
+        Ok(self.words.has_left(2))
+    }
+
+    // `read_sp3 FILE BYTES SATELLITE LEAP_SECONDS LENGTH LENGTH`: the refusal, or 0 and the count; the areas follow. Leap seconds that 16 bits do not hold are
+    // none.
+    fn read_sp3(&mut self) -> io::Result<bool> {
+        let Some(mut areas) = self.areas()? else {
+            return Ok(false);
+        };
+        let Some(file) = self.file()? else {
+            areas.put(self.out)?;
+            return Ok(false);
+        };
+        let satellite = satellite_of(self.words.word());
+        let leap = LeapSeconds(i16::try_from(self.words.whole()).unwrap_or(0));
+        sp3::read_sp3(
+            &file,
+            satellite,
+            leap,
+            &mut areas.instants,
+            &mut areas.numbers,
+        )
+        .put(self.out)?;
+        areas.put(self.out)?;
+        Ok(self.words.has_left(2))
+    }
+
+    // `fleet_board ENTRIES`: the refusal alone, or 0 and the board's clock offset. Nothing is put where the words are no case of it.
+    fn fleet_board(&mut self) -> io::Result<bool> {
+        let Some(entries) = entries_of(self.alloc, &mut self.words)? else {
+            return Ok(false);
+        };
+        board::fleet_board(&entries).put(self.out)?;
+        Ok(true)
+    }
 }

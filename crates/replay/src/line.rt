@@ -1,4 +1,7 @@
 // A line as far as it is read: a name, and behind each blank a word of 16 digits.
+ghost use Rattle.std.specs.List.{IsSplitAt};
+ghost use Rattle.std.specs.Prelude.{◌≡◌, IfSome};
+
 use crate::numbers::digit_of;
 use crate::words::{ROOM, Words};
 use std::alloc::{AllocError, Global};
@@ -47,18 +50,16 @@ impl Line {
         self.word = 0;
     }
 
-    // The name, where the line may be a case and its last word is whole.
-    pub(crate) fn name(&self) -> Option<&[u8]> {
-        if self.is_case && self.digits == DIGITS {
-            Some(&self.name)
-        } else {
-            None
+    // The name and the words, where the line may be a case and its last word is whole.
+    pub(crate) fn case(&self) -> Option<(&[u8], Words<'_>)>
+        ensures name { IfSome result (λ case. case.0.now ≡ self.now.name.items) }
+        ensures words { IfSome result (λ case. IfSome case.1.own (λ own. IsSplitAt self.now.words.items self.now.count own.now case.1.earlier.now)) }
+    {
+        if !self.is_case || self.digits != DIGITS {
+            return None;
         }
-    }
-
-    // The words.
-    pub(crate) fn words(&self) -> Words<'_> {
-        Words::new(self.words.as_slice(), self.count)
+        let (own, earlier) = self.words.split_at_checked(self.count)?;
+        Some((&self.name, Words::new(own, earlier)))
     }
 
     // Takes one more byte; where it has no place, the line is no case.
@@ -71,9 +72,6 @@ impl Line {
 
     // Puts a byte in its place: a blank begins a word, any other is a letter of the name or a digit of the word. None where it has no place.
     fn place(&mut self, byte: u8) -> Option<()> {
-        if self.count > ROOM {
-            return None;
-        }
         if byte == b' ' {
             return self.begin_word();
         }

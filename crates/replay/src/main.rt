@@ -11,6 +11,7 @@ mod numbers;
 mod printer;
 mod words;
 
+use entries::Case;
 use line::Line;
 use std::alloc::Global;
 use std::io;
@@ -18,9 +19,10 @@ use std::io::{BufReader, BufWriter, Read, Write};
 
 // Answers a line that is read to its end.
 fn answer_line(alloc: Global, out: &mut impl Write, line: &Line) -> io::Result<()> {
-    if let Some(name) = line.name() {
+    if let Some((name, words)) = line.case() {
         out.write_all(name)?;
-        if entries::answer(alloc, out, name, &mut line.words())? {
+        let mut case = Case { alloc, out, words };
+        if case.answer(name)? {
             return out.write_all(b"\n");
         }
     }

@@ -6,7 +6,7 @@ use std::io;
 use std::io::Write;
 use units::{Nanoseconds, Seconds};
 
-// What is put on the output as words.
+// What is put on the output as words. std's `Display` does not do: it writes i64 and f64 in decimal, and may not be given to a type of another crate.
 pub(crate) trait Answer {
     // Puts it on the output.
     fn put(&self, out: &mut impl Write) -> io::Result<()>;
@@ -14,10 +14,7 @@ pub(crate) trait Answer {
 
 // Puts one after the other.
 pub(crate) fn put_all<A: Answer>(out: &mut impl Write, answers: &[A]) -> io::Result<()> {
-    for answer in answers {
-        answer.put(out)?;
-    }
-    Ok(())
+    answers.iter().try_for_each(|answer| answer.put(out))
 }
 
 // The 16 digits of a word.
@@ -65,8 +62,8 @@ impl Answer for Nanoseconds {
     }
 }
 
-// The hundred cells of an inverse.
-impl Answer for [f64; 100] {
+// One after the other.
+impl<A: Answer, const N: usize> Answer for [A; N] {
     fn put(&self, out: &mut impl Write) -> io::Result<()> {
         put_all(out, self)
     }
@@ -75,17 +72,15 @@ impl Answer for [f64; 100] {
 // A sum and its slope.
 impl Answer for Evaluation {
     fn put(&self, out: &mut impl Write) -> io::Result<()> {
-        put_all(out, &[self.value, self.slope])
+        [self.value, self.slope].put(out)
     }
 }
 
 // A model's end times and the coefficients of each axis.
 impl Answer for ChebyshevOrbit {
     fn put(&self, out: &mut impl Write) -> io::Result<()> {
-        put_all(out, &[self.t0.0, self.t9.0])?;
-        put_all(out, &self.cx)?;
-        put_all(out, &self.cy)?;
-        put_all(out, &self.cz)
+        [self.t0, self.t9].put(out)?;
+        [self.cx, self.cy, self.cz].put(out)
     }
 }
 
@@ -94,8 +89,8 @@ impl Answer for Motion {
     fn put(&self, out: &mut impl Write) -> io::Result<()> {
         let position = self.position;
         let velocity = self.velocity;
-        put_all(out, &[position.x, position.y, position.z])?;
-        put_all(out, &[velocity.x, velocity.y, velocity.z])
+        [position.x, position.y, position.z].put(out)?;
+        [velocity.x, velocity.y, velocity.z].put(out)
     }
 }
 
@@ -117,10 +112,7 @@ impl<A: Answer> Answer for Located<A> {
 // Clock offset, frequency offset, RMSE, count, the instant, 1 or 0 for the fallback and how many lie outside the table.
 impl Answer for Report {
     fn put(&self, out: &mut impl Write) -> io::Result<()> {
-        put_all(
-            out,
-            &[self.clock_offset.0, self.frequency_offset.0, self.rmse.0],
-        )?;
+        [self.clock_offset.0, self.frequency_offset.0, self.rmse.0].put(out)?;
         self.count.put(out)?;
         self.approach.put(out)?;
         u64::from(self.fallback).put(out)?;

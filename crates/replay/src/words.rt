@@ -1,7 +1,10 @@
 // The words of a line, taken in turn by the entry that it names: slices, each after its length, and single words.
+ghost use Rattle.std.specs.Prelude.{◌≡◌, ◌∷◌, ◌++◌, [], length, IfNone, IfSome, IsSomeAnd, MatchOption, false, nat_eq};
+
 use crate::numbers::double;
 use checks::{AXES, MOST_COORDINATES, MOST_SAMPLES};
 use std::alloc::{AllocError, Global};
+use std::array;
 use units::{Metres, Observer};
 
 // How many words a line may have: the longest table, the longest recording, and some for a row or a sample too many and for single words.
@@ -11,41 +14,49 @@ pub(crate) const ROOM: usize = (1 + AXES) * MOST_COORDINATES + 2 * MOST_SAMPLES 
 // element, and the words behind it are 0. Either way the line is no case of its entry, which `has_left` tells.
 #[derive(Clone, Copy)]
 pub(crate) struct Words<'a> {
-    // the words from here on: the line's own, and behind them those that earlier lines left
-    room: &'a [u64],
-    // how many of them are the line's own; none where one was taken that it lacks
-    own: Option<usize>,
+    // the line's own; none where one was taken that it lacks
+    own: Option<&'a [u64]>,
+    // those that earlier lines left behind them
+    earlier: &'a [u64],
 }
 
 impl<'a> Words<'a> {
-    // The first `count` words of the room, none of them taken.
-    pub(crate) fn new(room: &'a [u64], count: usize) -> Words<'a> {
+    // The words of a line, none of them taken, and those that earlier lines left behind them.
+    pub(crate) fn new(own: &'a [u64], earlier: &'a [u64]) -> Words<'a>
+        ensures own { IfSome result.own (λ words. words.now ≡ own.now) }
+        ensures earlier { result.earlier.now ≡ earlier.now }
+    {
         Words {
-            room,
-            own: Some(count),
+            own: Some(own),
+            earlier,
         }
     }
 
     // Whether so many of the line's own words are left, and none was taken that it lacks.
-    pub(crate) fn has_left(&self, count: usize) -> bool {
-        self.own == Some(count)
+    pub(crate) fn has_left(self, count: usize) -> bool
+        ensures { MatchOption self.entry.own (result ≡ false) (λ own. result ≡ nat_eq (length own.now) count) }
+    {
+        self.own.is_some_and(|own| own.len() == count)
     }
 
-    // The k-th word from the line's end, counted from 1; 0 where it has fewer.
-    pub(crate) fn from_end(&self, k: usize) -> u64 {
-        let place = self.own.and_then(|own| own.checked_sub(k));
-        match place {
-            Some(place) => self.room.get(place).copied().unwrap_or(0),
-            None => 0,
-        }
+    // The k-th word from the line's end, counted from 0; 0 where it has fewer.
+    pub(crate) fn from_end(self, k: usize) -> u64 {
+        let word = self.own.and_then(|own| own.iter().nth_back(k));
+        word.copied().unwrap_or(0)
     }
 
     // The next word.
-    pub(crate) fn word(&mut self) -> u64 {
-        self.own = self.own.and_then(|own| own.checked_sub(1));
-        match self.room.split_first() {
+    pub(crate) fn word(&mut self) -> u64
+        ensures { IfSome self.new.own (λ rest. IsSomeAnd self.old.own (λ own. own.now ≡ result ∷ rest.now)) }
+    {
+        if let Some((word, rest)) = self.own.and_then(|own| own.split_first()) {
+            self.own = Some(rest);
+            return *word;
+        }
+        self.own = None;
+        match self.earlier.split_first() {
             Some((word, rest)) => {
-                self.room = rest;
+                self.earlier = rest;
                 *word
             }
             None => 0,
@@ -64,11 +75,7 @@ impl<'a> Words<'a> {
 
     // The next ten words, as doubles.
     pub(crate) fn ten_doubles(&mut self) -> [f64; 10] {
-        let mut ten = [0.0; 10];
-        for x in ten.iter_mut() {
-            *x = self.double();
-        }
-        ten
+        array::from_fn(|_| self.double())
     }
 
     // The next three words, as the place of the observer.
@@ -79,53 +86,36 @@ impl<'a> Words<'a> {
         Observer { x, y, z }
     }
 
-    // The slice whose length is the next word, and the words behind it; none where the line lacks one of these.
-    fn split_slice(self) -> Option<(&'a [u64], Words<'a>)> {
-        let (length, behind) = self.room.split_first()?;
-        let length = *length as usize;
-        let own = self.own?.checked_sub(1)?.checked_sub(length)?;
-        let (slice, room) = behind.split_at_checked(length)?;
-        let rest = Words {
-            room,
-            own: Some(own),
-        };
-        Some((slice, rest))
+    // The slice whose length is the next word, and the line's words behind it; none where the line lacks one of these.
+    fn split_slice(self) -> Option<(&'a [u64], &'a [u64])>
+        ensures { IfSome result (λ split. IsSomeAnd self.entry.own (λ own. own.now ≡ length split.0.now ∷ split.0.now ++ split.1.now)) }
+    {
+        let (length, behind) = self.own?.split_first()?;
+        behind.split_at_checked(*length as usize)
     }
 
     // The next slice.
-    pub(crate) fn slice(&mut self) -> &'a [u64] {
-        match self.split_slice() {
-            Some((slice, rest)) => {
-                *self = rest;
-                slice
-            }
-            None => {
-                *self = Words {
-                    room: &[],
-                    own: None,
-                };
-                &[]
-            }
-        }
-    }
-
-    // The next slice, as whole numbers.
-    pub(crate) fn wholes(&mut self, alloc: Global) -> Result<Vec<i64>, AllocError> {
-        self.slice()
-            .iter()
-            .map(|word| word.cast_signed())
-            .collect(alloc)
-    }
-
-    // The next slice, as doubles.
-    pub(crate) fn doubles(&mut self, alloc: Global) -> Result<Vec<f64>, AllocError> {
-        self.slice().iter().map(|word| double(*word)).collect(alloc)
+    pub(crate) fn slice(&mut self) -> &'a [u64]
+        ensures taken { IfSome self.new.own (λ rest. IsSomeAnd self.old.own (λ own. own.now ≡ length result.now ∷ result.now ++ rest.now)) }
+        ensures lacks { IfNone self.new.own (result.now ≡ []) }
+    {
+        let Some((slice, rest)) = self.split_slice() else {
+            *self = Words {
+                own: None,
+                earlier: &[],
+            };
+            return &[];
+        };
+        self.own = Some(rest);
+        slice
     }
 
     // So many bytes of the words behind the next one, eight in each, the first one lowest.
-    pub(crate) fn bytes_behind(&self, alloc: Global, count: usize) -> Result<Vec<u8>, AllocError> {
-        self.room
+    pub(crate) fn bytes_behind(self, alloc: Global, count: usize) -> Result<Vec<u8>, AllocError> {
+        self.own
+            .unwrap_or(&[])
             .iter()
+            .chain(self.earlier)
             .skip(1)
             .flat_map(|word| word.to_le_bytes())
             .take(count)
