@@ -75,9 +75,8 @@ impl<W: Write> Case<'_, W> {
         Ok(self.words.has_left(0))
     }
 
-    // The next two slices: instants, and a number or more for each.
+    // The next two slices: instants, and a number or more for each. Where the line has both, they and their lengths are the words that are taken.
     fn series(&mut self) -> Result<(Vec<i64>, Vec<f64>), AllocError>
-        // Where the line has both, they and their lengths are the words that are taken.
         ensures { IfOk result (λ read. IfSome self.new.words.own (λ rest. IsSomeAnd self.old.words.own (λ own.
             length own.now ≡ length read.0.items + length read.1.items + length rest.now + 2))) }
     {
