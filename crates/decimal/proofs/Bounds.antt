@@ -21,6 +21,9 @@ grows n k j d h l e = subst (λ (y : ℕ). n * 10 + d < 10 ^ y) (sym (add-one k)
 pub ten_mono : (k j : ℕ) → k ≤ j → 10 ^ k ≤ 10 ^ j
 ten_mono k j h = pow-le-pow_right {n = 10} (lit< tt) h
 
+pub ten_pos : (k : ℕ) → 0 < 10 ^ k
+ten_pos k = lt_of_lt_of_le {m = 1} (lit< tt) (ten_mono 0 k (omega arith))
+
 -- a number below m, if it is one
 abbrev below : ℕ → Option Number → Bool
 below m (Some n) = ltb n.digits m

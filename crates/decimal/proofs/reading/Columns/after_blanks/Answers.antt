@@ -4,11 +4,11 @@ use Rattle.std.proofs.lemmas.Iterator.{YieldsList-from_slice}
 use Rattle.std.proofs.lemmas.Iterator.Search.{position_from_yields_List}
 use Rattle.std.specs.List.{position}
 use Rattle.decimal.proofs.Bytes.{no_blank, behind_position}
-use Rattle.decimal.proofs.reading.after_blanks.Goals as goal
+use Rattle.decimal.proofs.reading.Columns.after_blanks.Goals as goal
 
 pub returns : goal.returns
 returns c =
-    let found : c.position.result ≡ position no_blank c.args.text.now =
+    let found : c.position.result ≡ position no_blank c.args.self.text.now =
     position_from_yields_List no_blank _ _ c.position.result c.position.ensures.ran
-    (YieldsList-from_slice c.args.text.now c.iter.ensures.rest) (λ x b q k. search (rules, tests)) in
-    behind_position c.args.text.now c.position.result c.unwrap_or-blanks.result found c.unwrap_or-blanks.ensures
+    (YieldsList-from_slice c.args.self.text.now c.iter.ensures.rest) (λ x b q k. search (rules, tests)) in
+    behind_position c.args.self.text.now c.position.result c.unwrap_or-blanks.result found c.unwrap_or-blanks.ensures
