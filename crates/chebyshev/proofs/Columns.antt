@@ -5,10 +5,6 @@ use Prim.Native.Nat.{ℕ, zero, suc, ◌+◌, ◌-◌, ◌≤◌, ◌<◌}
 use native.Mathlib.Omega.{arith}
 use lib.Ieee.{Float, lt}
 use Rattle.common.specs.Outcome.{Outcome, Told, refused, answered}
-use Rattle.std.specs.Result.{IsErrAnd}
-use Rattle.std.specs.Prelude.{Result, Ok, Err}
-use Rattle.common.specs.declared.refusal.Refusal.{Refusal}
-use Rattle.common.specs.Refusals.{number_of, told}
 use Rattle.float.specs.Signs.{magnitude_of}
 use Rattle.chebyshev.specs.Inverse.{Row, Matrix, cell, exchanged, least_pivot, singular_refusal, too_small, pivot_row, scaled_at, column, cleared_by, columns_from, order, unit_rows, inverted}
 use Rattle.chebyshev.specs.Steps.{cleared_column, column_cleared}
@@ -40,11 +36,6 @@ unfolding columns_from
 columns-step i t v h s =
     let e : 10 - i ≡ suc (10 - (i + 1)) = omega arith in
     rw (e, columns_from, s)
-
--- a refusal that is passed on
-pub told_refusal : {A B : Type 0} (f : A → B) (r : Result A Refusal) (e : Refusal) → IsErrAnd r (λ x. x ≡ e) → told f r ≡ refused (number_of e)
-told_refusal f (Ok a) e h = absurd h
-told_refusal f (Err x) e h = ap (λ (y : Refusal). refused (number_of y)) h
 
 -- what the pivot's test makes of the rest of a step
 abbrev stepped : {A : Type 0} → Bool → Outcome A → Outcome A

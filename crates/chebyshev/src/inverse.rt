@@ -35,64 +35,70 @@ fn reduce_row(row: &mut Row, k: f64, by: &Row)
     }
 }
 
-// The row that column i takes its pivot from: row i unless a later row's magnitude there compares greater than the best so far.
-fn pivot_row(m: &Matrix, i: usize) -> usize
-    requires { i < 10 }
-    ensures { (result < 10) × (result ≡ pivot_row i m.now) }
-{
-    let mut best = i;
-    let mut most = magnitude(m[i][i]);
-    // by the index, which is the answer
-    for r in i + 1..10 {
-        let x = magnitude(m[r][i]);
-        if x > most {
-            most = x;
-            best = r;
+// A column of the elimination, by its number.
+#[derive(Clone, Copy)]
+struct Column {
+    number: usize,
+    ghost inside: { number < 10 },
+}
+
+impl Column {
+    // The row that it takes its pivot from: the diagonal's row unless a later row's magnitude there compares greater than the best so far.
+    fn pivot_row(self, m: &Matrix) -> usize
+        ensures { (result < 10) × (result ≡ pivot_row self.number m.now) }
+    {
+        let mut best = self.number;
+        let mut most = magnitude(m[self.number][self.number]);
+        // by the index, which is the answer
+        for r in self.number + 1..10 {
+            let x = magnitude(m[r][self.number]);
+            if x > most {
+                most = x;
+                best = r;
+            }
+        }
+        best
+    }
+
+    // Its numbers in a matrix: the factor of each row.
+    fn factors(self, m: &Matrix) -> Row
+        ensures { result ≡ column self.number m.now }
+    {
+        from_fn(|r| m[r][self.number])
+    }
+
+    // Every row but the diagonal's, less its factor times that row.
+    fn clear_rows(self, m: &mut Matrix, factors: &Row)
+        ensures { m.new ≡ cleared_by self.number factors.now m.old }
+    {
+        let by = m[self.number];
+        // by the index, which tells the diagonal's row from the others; and of what is written through a zip, the library's contracts say nothing
+        for (r, row) in m.iter_mut().enumerate() {
+            if r != self.number {
+                reduce_row(row, factors[r], &by);
+            }
         }
     }
-    best
-}
 
-// Column i: the factor of each row.
-fn column_of(m: &Matrix, i: usize) -> Row
-    requires { i < 10 }
-    ensures { result ≡ column i m.now }
-{
-    from_fn(|r| m[r][i])
-}
-
-// Every row but row i, less its factor times row i.
-fn clear_rows(m: &mut Matrix, factors: &Row, i: usize)
-    requires { i < 10 }
-    ensures { m.new ≡ cleared_by i factors.now m.old }
-{
-    let by = m[i];
-    // by the index, which tells row i from the others; and of what is written through a zip, the library's contracts say nothing
-    for (r, row) in m.iter_mut().enumerate() {
-        if r != i {
-            reduce_row(row, factors[r], &by);
+    // One step of the elimination, done to both matrices. Refused where the pivot is too small.
+    fn clear(self, t: &mut Matrix, v: &mut Matrix) -> Result<(), Refusal>
+        ensures { told (λ _. (t.new, v.new)) result ≡ column_cleared self.number t.old v.old }
+    {
+        let i = self.number;
+        let j = self.pivot_row(t);
+        if magnitude(t[j][i]) < LEAST_PIVOT {
+            return Err(Refusal::Singular);
         }
+        t.swap(i, j);
+        v.swap(i, j);
+        let p = t[i][i];
+        divide_row(&mut t[i], p);
+        divide_row(&mut v[i], p);
+        let factors = self.factors(t);
+        self.clear_rows(t, &factors);
+        self.clear_rows(v, &factors);
+        Ok(())
     }
-}
-
-// One column of the elimination, done to both matrices. Refused where its pivot is too small.
-fn clear_column(t: &mut Matrix, v: &mut Matrix, i: usize) -> Result<(), Refusal>
-    requires { i < 10 }
-    ensures { told (λ _. (t.new, v.new)) result ≡ column_cleared i t.old v.old }
-{
-    let j = pivot_row(t, i);
-    if magnitude(t[j][i]) < LEAST_PIVOT {
-        return Err(Refusal::Singular);
-    }
-    t.swap(i, j);
-    v.swap(i, j);
-    let p = t[i][i];
-    divide_row(&mut t[i], p);
-    divide_row(&mut v[i], p);
-    let factors = column_of(t, i);
-    clear_rows(t, &factors, i);
-    clear_rows(v, &factors, i);
-    Ok(())
 }
 
 // The rows of the identity.
@@ -110,14 +116,15 @@ const IDENTITY: [[f64; 10]; 10] = [
 ];
 
 // The rows of the inverse of a. Refused where a column's pivot has a magnitude below 1e-12.
+#[tactic(auto, using(crate::proofs::Columns::columns_turn, crate::proofs::Columns::columns_refused, crate::proofs::Columns::columns_end), unfolding(crate::specs::Inverse::inverted, common::specs::Lists::list_of))]
 pub(crate) fn gauss_jordan(a: Matrix) -> Result<Matrix, Refusal>
     ensures { told (λ rows. rows) result ≡ inverted a }
 {
     let mut t = a;
     let mut v = IDENTITY;
-    // i names the column of both matrices; nothing is indexed by it here
-    for i in 0..10 {
-        clear_column(&mut t, &mut v, i)?;
+    // by the number, which names a column of both matrices
+    for number in 0..10 {
+        Column { number }.clear(&mut t, &mut v)?;
     }
     Ok(v)
 }

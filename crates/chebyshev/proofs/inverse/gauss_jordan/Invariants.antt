@@ -5,8 +5,8 @@ use mathlib.Core.Path.{◌≡◌}
 use Rattle.chebyshev.specs.Inverse.{columns_from, inverted}
 use Rattle.chebyshev.proofs.inverse.gauss_jordan.Given as goal
 
-abbrev pub invariant-loop-i : goal.invariant-loop-i
-invariant-loop-i l = (l.i ≤ 10) × (columns_from (10 - l.i) l.i l.t l.v ≡ inverted l.initial.t)
+abbrev pub invariant-loop-number : goal.invariant-loop-number
+invariant-loop-number l = (l.number ≤ 10) × (columns_from (10 - l.number) l.number l.t l.v ≡ inverted l.initial.t)
 
-abbrev pub decreases-loop-i : goal.decreases-loop-i
-decreases-loop-i l = 10 - l.i
+abbrev pub decreases-loop-number : goal.decreases-loop-number
+decreases-loop-number l = 10 - l.number

@@ -8,22 +8,22 @@ use native.Mathlib.Omega.{arith}
 use lib.ListN.{get_or, set}
 use Rattle.chebyshev.specs.Inverse.{reduced}
 use Rattle.chebyshev.proofs.Rows.{cleared-step, cleared_end, cleared-other, cleared-same}
-use Rattle.chebyshev.proofs.inverse.clear_rows.Goals as goal
-use Rattle.chebyshev.proofs.inverse.clear_rows.Goals.{then-r-i, else-r-i}
+use Rattle.chebyshev.proofs.inverse.Column.clear_rows.Goals as goal
+use Rattle.chebyshev.proofs.inverse.Column.clear_rows.Goals.{then-r-self, else-r-self}
 
 pub loop-r-preserved : goal.loop-r-preserved
 loop-r-preserved c =
     let at = c.loop-r in
-    let i = c.args.i in
+    let i = c.args.self.number in
     let factors = c.args.factors.now in
     let by = get_or c.args.m.now i [] in
-    let e : c.if-r-i.m ≡ set at.m at.r (cond (eqb at.r i) (get_or at.m at.r []) (reduced (get_or factors at.r nan) (get_or at.m at.r []) by)) = elim c.if-r-i.branch [
-      | then-r-i w ↦ cleared-other i by factors at.m c.if-r-i.m at.r w.reduce_row.new.row w.if-r-i.true w.reduce_row.ensures w.m-is
-      | else-r-i w ↦ cleared-same i by factors at.m c.if-r-i.m at.r w.if-r-i.false w.m-is
+    let e : c.if-r-self.m ≡ set at.m at.r (cond (eqb at.r i) (get_or at.m at.r []) (reduced (get_or factors at.r nan) (get_or at.m at.r []) by)) = elim c.if-r-self.branch [
+      | then-r-self w ↦ cleared-other i by factors at.m c.if-r-self.m at.r w.reduce_row.new.row w.if-r-self.true w.reduce_row.ensures w.m-is
+      | else-r-self w ↦ cleared-same i by factors at.m c.if-r-self.m at.r w.if-r-self.false w.m-is
     ] in
     rw e (cleared-step i by factors at.m at.r (omega arith) ∙ at.invariant)
 
 pub returns : goal.returns
 returns c =
     let at = c.loop-r in
-    sym (cleared_end c.args.i (get_or c.args.m.now c.args.i []) c.args.factors.now at.m at.r (omega arith)) ∙ at.invariant
+    sym (cleared_end c.args.self.number (get_or c.args.m.now c.args.self.number []) c.args.factors.now at.m at.r (omega arith)) ∙ at.invariant
