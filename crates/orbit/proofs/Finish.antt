@@ -92,7 +92,7 @@ module _ (try : Float → Trial) where
         stage_kept try named (farthest_coarse + 1) farthest_fine (fine_stage t.shift) (found t) (omega arith) (omega arith) (omega arith) (weaken farthest_coarse farthest_fine t.shift (omega arith) h)
         (sub_within farthest_coarse 1 t.shift twentieth (omega arith) h (omega arith)) (omega arith)
 
-    micro_small : (t : Trial) → Within farthest_fine t.shift → BestWithin farthest_shift (after_stage try (micro_stage t.shift) (found t))
+    pub micro_small : (t : Trial) → Within farthest_fine t.shift → BestWithin farthest_shift (after_stage try (micro_stage t.shift) (found t))
     micro_small t h =
         stage_kept try named (farthest_fine + 1) farthest_shift (micro_stage t.shift) (found t) (omega arith) (omega arith) (omega arith) (weaken farthest_fine farthest_shift t.shift (omega arith) h)
         (sub_within farthest_fine 1 t.shift thousandth (omega arith) h (omega arith)) (omega arith)
