@@ -1,6 +1,7 @@
 -- What the proofs of orbit share, and the laws and theorems that a reader cites (`pub`).
 mod Searches
 pub mod PlaceLaws
+pub mod WindowStarts
 pub mod Models
 mod Offsets
 pub mod FirstRange
