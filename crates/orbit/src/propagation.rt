@@ -47,7 +47,7 @@ impl TabulatedOrbit<'_> {
         ensures { told (λ m. m) result
             ≡ propagated self.now.tolerance self.now.table.instants.now self.now.table.positions.now t.0 }
     {
-        let model = self.model_at(self.window_start(t))?;
+        let model = self.window(t).model()?;
         Ok(model.motion_at(t))
     }
 }

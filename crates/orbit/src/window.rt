@@ -61,6 +61,14 @@ pub(crate) fn tau_of(t0: Seconds, t9: Seconds, t: Seconds) -> f64
     2.0 * (t.0 - t0.0) / (t9.0 - t0.0) - 1.0
 }
 
+// The window of ten coordinates of a table from one on.
+#[derive(Clone, Copy)]
+pub(crate) struct Window<'t> {
+    orbit: &'t TabulatedOrbit<'t>,
+    start: usize,
+    ghost inside: { start + 10 ≤ length orbit.now.table.instants.now },
+}
+
 // One row for each of the ten times: T0 to T9 at its τ.
 fn nodes_of(t: [f64; 10]) -> [[f64; 10]; 10]
     ensures { result ≡ node_matrix t }
@@ -85,58 +93,62 @@ impl TabulatedOrbit<'_> {
             .saturating_sub(1)
     }
 
-    // The start of the window about an instant.
-    pub(crate) fn window_start(&self, t: Nanoseconds) -> usize
-        ensures { (result + 10 ≤ length self.now.table.instants.now)
-            × (result ≡ window_start self.now.table.instants.now t.0) }
+    // The window about an instant.
+    pub(crate) fn window(&self, t: Nanoseconds) -> Window<'_>
+        ensures { (result.orbit.now ≡ self.now) × (result.start ≡ window_start self.now.table.instants.now t.0) }
     {
-        start_of(self.last_before(t), self.table.instants.len())
+        Window {
+            orbit: self,
+            start: start_of(self.last_before(t), self.table.instants.len()),
+        }
+    }
+}
+
+impl Window<'_> {
+    // Its ten times, in seconds.
+    fn seconds(&self) -> [f64; 10]
+        ensures { result ≡ window_seconds self.now.orbit.now.table.instants.now self.now.start }
+    {
+        let orbit = self.orbit;
+        let instants = orbit.table.instants;
+        from_fn(|k| seconds_of(Nanoseconds(instants[self.start + k])).0)
     }
 
-    // The ten times of the window that begins at start, in seconds.
-    fn seconds_in(&self, start: usize) -> [f64; 10]
-        requires { start + 10 ≤ length self.now.table.instants.now }
-        ensures { result ≡ window_seconds self.now.table.instants.now start }
+    // One axis of its ten positions: 0 is x, 1 is y, 2 is z.
+    fn axis(&self, axis: usize) -> [f64; 10]
+        requires { axis < axes }
+        ensures { result ≡ axis_of self.now.orbit.now.table.positions.now self.now.start axis }
     {
-        let instants = self.table.instants;
-        from_fn(|k| seconds_of(Nanoseconds(instants[start + k])).0)
+        let orbit = self.orbit;
+        let positions = orbit.table.positions;
+        from_fn(|k| positions[AXES * (self.start + k) + axis])
     }
 
-    // One axis of the window's ten positions: 0 is x, 1 is y, 2 is z.
-    fn axis_of(&self, start: usize, axis: usize) -> [f64; 10]
-        requires { (axis < axes) × (start + 10 ≤ length self.now.table.instants.now) }
-        ensures { result ≡ axis_of self.now.table.positions.now start axis }
+    // Its model: of an even one by the ideal inverse, else by that of its own nodes' matrix, refused where that has none.
+    pub(crate) fn model(&self) -> Result<ChebyshevOrbit, Refusal>
+        ensures { told (λ m. m) result ≡ model_at self.now.orbit.now.tolerance
+            self.now.orbit.now.table.instants.now self.now.orbit.now.table.positions.now self.now.start }
     {
-        let positions = self.table.positions;
-        from_fn(|k| positions[AXES * (start + k) + axis])
-    }
-
-    // The model of the window that begins at start: of an even one by the ideal inverse, else by that of its own nodes' matrix, refused where that
-    // has none.
-    pub(crate) fn model_at(&self, start: usize) -> Result<ChebyshevOrbit, Refusal>
-        requires { start + 10 ≤ length self.now.table.instants.now }
-        ensures { told (λ m. m) result
-            ≡ model_at self.now.tolerance self.now.table.instants.now self.now.table.positions.now start }
-    {
-        let t = self.seconds_in(start);
+        let orbit = self.orbit;
+        let t = self.seconds();
         let t0 = Seconds(t[0]);
         let t9 = Seconds(t[9]);
         // one function that makes both models was tried: it costs 100 instructions a model, and the fit must get no slower
-        if is_uneven(t, self.tolerance) {
+        if is_uneven(t, orbit.tolerance) {
             let Coefficients { cx, cy, cz } = coefficients_through(
                 nodes_of(t),
-                self.axis_of(start, 0),
-                self.axis_of(start, 1),
-                self.axis_of(start, 2),
+                self.axis(0),
+                self.axis(1),
+                self.axis(2),
             )?;
             return Ok(ChebyshevOrbit { t0, t9, cx, cy, cz });
         }
         Ok(ChebyshevOrbit {
             t0,
             t9,
-            cx: ideal_coefficients(self.axis_of(start, 0)),
-            cy: ideal_coefficients(self.axis_of(start, 1)),
-            cz: ideal_coefficients(self.axis_of(start, 2)),
+            cx: ideal_coefficients(self.axis(0)),
+            cy: ideal_coefficients(self.axis(1)),
+            cz: ideal_coefficients(self.axis(2)),
         })
     }
 }
@@ -154,5 +166,5 @@ pub fn get_chebyshev_model(
         instants,
         positions,
     });
-    orbit.model_at(orbit.window_start(instant))
+    orbit.window(instant).model()
 }

@@ -5,9 +5,9 @@ use lib.Ieee.{nan}
 use borrow.Author.Rules.{rules}
 use Rattle.checks.specs.Limits.{axes}
 use Rattle.common.proofs.Made.{made_of_indices}
-use Rattle.orbit.proofs.tabulated.TabulatedOrbit.axis_of.Goals as goal
+use Rattle.orbit.proofs.window.Window.axis.Goals as goal
 
 pub returns : goal.returns
 returns c =
-    let a = c.args in
-    made_of_indices _ (λ k. get_or a.self.now.table.positions.now (axes * (a.start + k) + a.axis) nan) _ _ nan (λ i y q k. search rules) 10 c.from_fn.ensures.items
+    let w = c.args.self.now in
+    made_of_indices _ (λ k. get_or w.orbit.now.table.positions.now (axes * (w.start + k) + c.args.axis) nan) _ _ nan (λ i y q k. search rules) 10 c.from_fn.ensures.items
