@@ -34,6 +34,13 @@ const SECONDS_BEFORE: i64 = 60;
 
 const SECONDS_COUNT: u64 = 121;
 
+// An offset of the search for the closest approach, in whole seconds: so small that it moves any checked instant to one that fits.
+#[derive(Clone, Copy)]
+struct Offset {
+    seconds: i64,
+    ghost small: { nat_abs seconds ≤ farthest_offset },
+}
+
 // The least squared range so far, in square metres, and its offset in seconds.
 #[derive(Clone, Copy)]
 struct LeastRange {
@@ -52,37 +59,40 @@ fn squared_range(p: Position, o: Observer) -> f64
 }
 
 // An instant moved by whole seconds.
-fn moved_by_seconds(t: CheckedInstant, offset: i64) -> Nanoseconds
-    requires { nat_abs offset ≤ farthest_offset }
-    ensures { result.0 ≡ moved_by_seconds t.instant.0 offset }
+fn moved_by_seconds(t: CheckedInstant, offset: Offset) -> Nanoseconds
+    ensures { result.0 ≡ moved_by_seconds t.instant.0 offset.seconds }
 {
-    Nanoseconds(t.instant.0 + offset * SECOND)
+    Nanoseconds(t.instant.0 + offset.seconds * SECOND)
 }
 
 impl Offsets {
     // The offset k steps after the first.
-    fn offset_at(&self, k: u64) -> i64
+    fn offset_at(&self, k: u64) -> Offset
         requires { nat_abs self.now.first + self.now.step * k ≤ farthest_offset }
-        ensures { result ≡ offset_at self.now k }
+        ensures { result.seconds ≡ offset_at self.now k }
     {
-        self.first + ((self.step * k) as i64)
+        Offset {
+            seconds: self.first + ((self.step * k) as i64),
+        }
     }
 }
 
 impl Search<'_> {
     // The nearer of the best so far and the place at an offset: the offset wins only by a smaller squared range.
-    fn nearer_at(&self, offset: i64, best: LeastRange) -> LeastRange
-        requires { nat_abs offset ≤ farthest_offset }
+    fn nearer_at(&self, offset: Offset, best: LeastRange) -> LeastRange
         ensures { result ≡ better_of nearer best
             (ranged self.now.orbit.tolerance self.now.orbit.table.instants.now self.now.orbit.table.positions.now
-            self.now.observer self.now.around.instant.0 offset) }
+            self.now.observer self.now.around.instant.0 offset.seconds) }
     {
         let Ok(m) = self.orbit.propagate(moved_by_seconds(self.around, offset)) else {
             return best;
         };
         let range = squared_range(m.position, self.observer);
         if range < best.range {
-            LeastRange { range, offset }
+            LeastRange {
+                range,
+                offset: offset.seconds,
+            }
         } else {
             best
         }
@@ -131,7 +141,10 @@ impl TabulatedOrbit<'_> {
             offset: centre,
         };
         let by_seconds = search.seek_least_range(seconds, centred);
-        moved_by_seconds(around, by_seconds.offset)
+        let nearest = Offset {
+            seconds: by_seconds.offset,
+        };
+        moved_by_seconds(around, nearest)
     }
 }
 

@@ -75,15 +75,15 @@ seek_least_range-by_seconds-requires c =
     let first = first_is s.tolerance s.table.instants.now s.table.positions.now c.args.observer c.args.around.instant.0 c.seek_least_range-by_minutes.result c.seek_least_range-by_minutes.ensures in
     subst (λ (z : ℤ). nat_abs z + 121 ≤ farthest_offset) (sym first) (omega (arith, small))
 
-pub moved_by_seconds-requires : goal.moved_by_seconds-requires
+pub invariant_of-nearest : goal.invariant_of-nearest
 unfolding of_bits
-moved_by_seconds-requires c =
+invariant_of-nearest c =
     let s = c.args.self.now in
     let small = found_small s.tolerance s.table.instants.now s.table.positions.now c.args.observer c.args.around.instant.0 c.seek_least_range-by_minutes.result c.seek_least_range-by_minutes.ensures
     c.seek_least_range-by_seconds.result c.seek_least_range-by_seconds.ensures in
     let found = found_is s.tolerance s.table.instants.now s.table.positions.now c.args.observer c.args.around.instant.0 c.seek_least_range-by_minutes.result c.seek_least_range-by_minutes.ensures
     c.seek_least_range-by_seconds.result c.seek_least_range-by_seconds.ensures in
-    subst (λ (z : ℤ). nat_abs z ≤ farthest_offset) (sym found) small
+    record { small = subst (λ (z : ℤ). nat_abs z ≤ farthest_offset) (sym found) small }
 
 pub returns : goal.returns
 unfolding of_bits
