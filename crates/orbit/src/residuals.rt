@@ -1,6 +1,6 @@
 // The residuals of a recording under a shift of its clock, and their means; and how many of its instants lie outside the table then.
 ghost use Rattle.std.specs.Prelude.{◌≡◌, map, ◌<◌, ◌≤◌, pos, nat_abs, ◌-ℤ◌, ◌*ℤ◌, length, take};
-ghost use Rattle.checks.specs.Limits.{most_samples};
+ghost use Rattle.checks.specs.Limits.{farthest_instant, most_samples};
 ghost use Rattle.common.specs.Time.{microsecond};
 ghost use Rattle.orbit.specs.Bounds.{farthest_micros};
 ghost use Rattle.orbit.specs.Residuals.{whole_microseconds, residual_at, residual_in, propagated_by};
@@ -97,15 +97,15 @@ impl<'t, 'r> Fitting<'t, 'r> {
         ensures { result ≡ outside_count (inputs_by self.now).instants self.now.recording.instants.now shift.seconds.0 }
     {
         let micros = microseconds_of(shift);
-        let mut count: usize = 0;
-        // a filter's closure would owe each instant's bound
-        for t in self.recording.instants {
-            let instant = Nanoseconds(*t);
-            let moved = moved_earlier(CheckedInstant { instant }, micros);
-            if self.orbit.place_of(moved).is_outside() {
-                count += 1;
-            }
-        }
-        count
+        let outside = self.recording.instants.iter().filter(
+            |t|
+                requires { (nat_abs t.now.now ≤ farthest_instant) × (nat_abs micros ≤ farthest_micros) }
+            {
+                let instant = Nanoseconds(**t);
+                let moved = moved_earlier(CheckedInstant { instant }, micros);
+                self.orbit.place_of(moved).is_outside()
+            },
+        );
+        outside.count()
     }
 }

@@ -1,42 +1,49 @@
--- Those counted so far and those of the samples that are left make up those of all the samples. Assumes nothing.
-use mathlib.Core.Path.{◌≡◌, sym, ap, ◌∙◌}
-use native.Mathlib.Omega.{arith}
-use lib.IntN.{ℤ, pos, ◌-ℤ◌, ◌*ℤ◌}
-use lib.ListN.{get_or}
+-- Each sample's instant is a checked one, and those of the filter are the definition's. Assumes nothing.
+use mathlib.Core.Path.{◌≡◌, sym, ap, ap₂, ◌∙◌, subst}
+use mathlib.Core.Bool.{Bool}
+use mathlib.Core.List.{List}
+use Prim.Native.Nat.{◌≤◌}
+use lib.IntN.{ℤ, pos, nat_abs, ◌-ℤ◌, ◌*ℤ◌}
 use mir.Syntax.{w64}
 use mir.ValLaws.{to_z-of_z}
+use Rattle.std.proofs.Common.{rules}
+use Rattle.std.proofs.lemmas.Iterator.{YieldsList-from_slice}
+use Rattle.std.proofs.lemmas.Iterator.Adapters.{serves_from_places}
+use Rattle.std.proofs.lemmas.Iterator.Consumers.{YieldsList-at, YieldsList-from_filter, count_from_yields_List}
+use Rattle.std.proofs.lemmas.List.{get_or_default}
 use Rattle.common.specs.Time.{microsecond}
-use Rattle.common.specs.Lists.{how_many}
+use Rattle.checks.specs.Limits.{farthest_instant}
 use Rattle.orbit.specs.Place.{place_of, is_outside}
-use Rattle.orbit.specs.Residuals.{whole_microseconds}
-use Rattle.orbit.proofs.Collected.{counted_yes, counted_no, counted_end}
+use Rattle.orbit.specs.Residuals.{whole_microseconds, lies_outside}
 use Rattle.orbit.proofs.Offsets.{back, near_is}
-use Rattle.orbit.proofs.fitting.Fitting.count_outside.Invariants.{outside_by}
+use Rattle.orbit.proofs.Collected.{filter_is}
+use borrow.Author.Tests.{tests}
 use Rattle.orbit.proofs.fitting.Fitting.count_outside.Goals as goal
-use Rattle.orbit.proofs.fitting.Fitting.count_outside.Goals.{else-is_outside, then-is_outside}
 
-pub loop-t-preserved : goal.loop-t-preserved
-loop-t-preserved c =
-    let at = c.loop-t in
-    let self = c.args.self.now in
-    let ts = self.recording.instants.now in
-    let instants = self.orbit.table.instants.now in
-    let micros = back c.microseconds_of-micros.result in
-    let moved : c.moved_earlier-moved.result.0 ≡ get_or ts at.t-index (pos 0) -ℤ micros *ℤ pos microsecond = c.moved_earlier-moved.ensures ∙ ap (λ (y : ℤ). y -ℤ micros *ℤ pos microsecond) (near_is _ (self.recording.checked.near at.t-index)) in
-    let lies : outside_by instants micros (get_or ts at.t-index (pos 0)) ≡ c.is_outside.result = sym (c.is_outside.ensures ∙ ap is_outside (c.place_of.ensures ∙ ap (place_of instants) moved)) in
-    let p = outside_by instants micros in
-    (elim c.if-is_outside.branch [
-      | then-is_outside w ↦ (omega (arith, at.invariant.0, w.count-is), rw w.count-is (counted_yes p ts at.t-index at.count (omega arith) (lies ∙ w.if-is_outside.true) ∙ at.invariant.1))
-      | else-is_outside w ↦ (omega (arith, at.invariant.0, w.count-is), rw w.count-is (counted_no p ts at.t-index at.count (omega arith) (lies ∙ w.if-is_outside.false) ∙ at.invariant.1))
-    ])
+-- whether an instant that is moved earlier by a count of microseconds lies outside
+abbrev outside_by : List ℤ → ℤ → ℤ → Bool
+outside_by instants micros t = is_outside (place_of instants (t -ℤ micros *ℤ pos microsecond))
+
+pub count-requires-clause-can : goal.count-requires-clause-can
+count-requires-clause-can c =
+    let samples = c.args.self.now.recording in
+    let ts = samples.instants.now in (
+      tt,
+      tt,
+      serves_from_places (YieldsList-from_slice ts (cc)) (λ x q e. search (rules, tests)) (λ x k l e y h. (
+        subst (λ (z : ℤ). nat_abs z ≤ farthest_instant) (sym (ap (λ p. p.now) h ∙ e ∙ get_or_default ts k x.now (pos 0) l)) (samples.checked.near k),
+        search rules,
+      )),
+    )
 
 pub returns : goal.returns
 returns c =
     let self = c.args.self.now in
-    let at = c.loop-t in
+    let instants = self.orbit.table.instants.now in
+    let ts = self.recording.instants.now in
     let micros = c.microseconds_of-micros in
     let micros_are : back micros.result ≡ whole_microseconds c.args.shift.seconds.0 = to_z-of_z w64 micros.result (record { sfits = micros.type_inv }) ∙ micros.ensures.0 in
-    let p = outside_by self.orbit.table.instants.now in
-    sym (counted_end (p (back micros.result)) self.recording.instants.now at.t-index at.count (omega arith))
-    ∙ at.invariant.1
-    ∙ ap (λ (z : ℤ). how_many (p z) self.recording.instants.now) micros_are
+    let test : ℤ → Bool = λ t. outside_by instants (back micros.result) (back t) in
+    count_from_yields_List c.filter-outside.result c.count.result c.count.ensures.ran
+    (YieldsList-from_filter _ test (YieldsList-at c.filter-outside.ensures.source (YieldsList-from_slice ts (cc))) c.filter-outside.ensures.closure (λ x b q k. search (rules, tests)))
+    ∙ filter_is test (lies_outside instants c.args.shift.seconds.0) ts (λ k. ap₂ (outside_by instants) micros_are (near_is _ (self.recording.checked.near k)))
