@@ -3,15 +3,16 @@ use mathlib.Core.Path.{◌≡◌, refl, ap, ◌∙◌}
 use mathlib.Core.Bool.{Bool, true, false, cond}
 use mathlib.Core.Logic.{◌⊎◌, inl, inr}
 use mathlib.Core.List.{List, [], ◌∷◌, ◌++◌, append_assoc, append-nil}
-use Prim.Native.Nat.{ℕ, suc, ◌+◌, ◌<◌}
+use Prim.Native.Nat.{ℕ, suc, ◌+◌, ◌≤◌, ◌<◌}
 use native.Mathlib.Numerals.{add-one}
 use native.Mathlib.Omega.{arith}
 use lib.IntN.{ℤ, pos}
-use lib.ListN.{length, get_or, take, set}
-use lib.Seq.{take-suc-set}
+use lib.ListN.{length, get_or, take, drop, set, drop_of_length-le}
+use lib.Seq.{drop-cons, take-suc-set}
 use lib.Ieee.{Float}
 use Rattle.std.specs.List.{filter}
 use Rattle.common.specs.Lists.{those, how_many}
+use Rattle.common.proofs.Those.{those_none, those_yes, those_no}
 use Rattle.samples.specs.Means.{Sample, recording}
 use Rattle.orbit.specs.Residuals.{Residual, skipped, residual, residuals}
 
@@ -51,3 +52,19 @@ filter_is f p (t ∷ ts) h = let e : f t ≡ p t = h 0 in rw e (go (p t) (filter
     go : (v : Bool) → length (filter f ts) ≡ how_many p ts → length (cond v (t ∷ filter f ts) (filter f ts)) ≡ length (cond v (t ∷ those p ts) (those p ts))
     go true r = ap suc r
     go false r = r
+
+-- n of the instants before i are such: with the one at i there is one more where it is such, and no more where it is not
+module _ (p : ℤ → Bool) (ts : List ℤ) (i n : ℕ) where
+  pub counted_yes : i < length ts → p (get_or ts i (pos 0)) ≡ true → how_many p (drop (i + 1) ts) + (n + 1) ≡ how_many p (drop i ts) + n
+  counted_yes h e =
+      let more : how_many p (drop i ts) ≡ suc (how_many p (drop (i + 1) ts)) = rw add-one (ap length (ap (those p) (drop-cons ts i (pos 0) h) ∙ those_yes p (get_or ts i (pos 0)) (drop (suc i) ts) e)) in
+      omega (arith, more)
+
+  pub counted_no : i < length ts → p (get_or ts i (pos 0)) ≡ false → how_many p (drop (i + 1) ts) + n ≡ how_many p (drop i ts) + n
+  counted_no h e =
+      let same : how_many p (drop i ts) ≡ how_many p (drop (i + 1) ts) = rw add-one (ap length (ap (those p) (drop-cons ts i (pos 0) h) ∙ those_no p (get_or ts i (pos 0)) (drop (suc i) ts) e)) in
+      omega (arith, same)
+
+  -- behind the last there is none
+  pub counted_end : length ts ≤ i → how_many p (drop i ts) + n ≡ n
+  counted_end h = let none : how_many p (drop i ts) ≡ 0 = ap length (ap (those p) (drop_of_length-le ts h) ∙ those_none p) in omega (arith, none)
