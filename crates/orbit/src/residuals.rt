@@ -14,19 +14,27 @@ use checks::{CheckedInstant, MOST_SAMPLES};
 use float::{nearest, sqrt, truncated};
 use units::{Hertz, LIGHT_SPEED, MICROSECOND, Nanoseconds, SECOND_MICROSECONDS};
 
+// Whole microseconds of a shift, so few that they move any checked instant to one that fits.
+#[derive(Clone, Copy)]
+struct Microseconds {
+    count: i64,
+    ghost few: { nat_abs count ≤ farthest_micros },
+}
+
 // A shift as whole microseconds, toward zero.
-fn microseconds_of(shift: Shift) -> i64
-    ensures { (result ≡ whole_microseconds shift.seconds.0) × (nat_abs result ≤ farthest_micros) }
+fn microseconds_of(shift: Shift) -> Microseconds
+    ensures { result.count ≡ whole_microseconds shift.seconds.0 }
 {
-    truncated(shift.seconds.0 * SECOND_MICROSECONDS)
+    Microseconds {
+        count: truncated(shift.seconds.0 * SECOND_MICROSECONDS),
+    }
 }
 
 // An instant moved earlier by whole microseconds.
-fn moved_earlier(t: CheckedInstant, micros: i64) -> Nanoseconds
-    requires { nat_abs micros ≤ farthest_micros }
-    ensures { result.0 ≡ t.instant.0 -ℤ micros *ℤ pos microsecond }
+fn moved_earlier(t: CheckedInstant, micros: Microseconds) -> Nanoseconds
+    ensures { result.0 ≡ t.instant.0 -ℤ micros.count *ℤ pos microsecond }
 {
-    Nanoseconds(t.instant.0 - micros * MICROSECOND)
+    Nanoseconds(t.instant.0 - micros.count * MICROSECOND)
 }
 
 // The mean of values, summed in their order from −0.0.
@@ -99,7 +107,7 @@ impl<'t, 'r> Fitting<'t, 'r> {
         let micros = microseconds_of(shift);
         let outside = self.recording.instants.iter().filter(
             |t|
-                requires { (nat_abs t.now.now ≤ farthest_instant) × (nat_abs micros ≤ farthest_micros) }
+                requires { nat_abs t.now.now ≤ farthest_instant }
             {
                 let instant = Nanoseconds(**t);
                 let moved = moved_earlier(CheckedInstant { instant }, micros);

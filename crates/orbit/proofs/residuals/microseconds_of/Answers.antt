@@ -11,9 +11,13 @@ use Rattle.orbit.proofs.Offsets.{back}
 use Rattle.orbit.proofs.Shifts.{microseconds_small}
 use Rattle.orbit.proofs.residuals.microseconds_of.Goals as goal
 
-pub returns : goal.returns
+pub invariant_of-result : goal.invariant_of-result
 unfolding of_bits
-returns c =
+invariant_of-result c =
     let shift = c.args.shift.seconds.0 in
     let whole : back c.truncated.result ≡ whole_microseconds shift = to_z-of_z w64 c.truncated.result (record { sfits = c.truncated.type_inv }) ∙ c.truncated.ensures in
-    (whole, subst (λ (z : ℤ). nat_abs z ≤ farthest_micros) (sym whole) (microseconds_small shift c.args.shift.small))
+    record { few = subst (λ (z : ℤ). nat_abs z ≤ farthest_micros) (sym whole) (microseconds_small shift c.args.shift.small) }
+
+pub returns : goal.returns
+unfolding of_bits
+returns c = to_z-of_z w64 c.truncated.result (record { sfits = c.truncated.type_inv }) ∙ c.truncated.ensures

@@ -7,16 +7,14 @@ use native.Mathlib.Omega.{arith}
 use lib.IntN.{ℤ, pos, nat_abs, ◌-ℤ◌, ◌*ℤ◌}
 use lib.ListN.{length, take, length-set}
 use lib.Ieee.{Float}
-use mir.Syntax.{w64}
-use mir.ValLaws.{to_z-of_z}
 use borrow.Author.Rules.{rules}
 use Rattle.common.specs.Time.{microsecond}
 use Rattle.checks.specs.Limits.{farthest_instant}
 use Rattle.samples.specs.Means.{recording}
-use Rattle.orbit.specs.Residuals.{whole_microseconds, skipped, residual, residual_in, residuals, propagated_by}
+use Rattle.orbit.specs.Residuals.{skipped, residual, residual_in, residuals, propagated_by}
 use Rattle.orbit.specs.Fitting.{inputs_by, sampled_by}
 use Rattle.orbit.proofs.Collected.{one_residual, no_residual, residuals_end, pushed}
-use Rattle.orbit.proofs.Offsets.{back, near_is}
+use Rattle.orbit.proofs.Offsets.{near_is}
 use Rattle.orbit.proofs.fitting.Fitting.collect_residuals.Invariants.{residual_by}
 use Rattle.orbit.proofs.fitting.Fitting.collect_residuals.Goals as goal
 
@@ -48,7 +46,7 @@ loop-t-preserved-in-Some-residual c =
     let s = c.in-Some.ensures.steps in
     let i = inputs_by self in
     let x = c.in-Some.t.now in
-    let micros = back c.microseconds_of-micros.result in
+    let micros = c.microseconds_of-micros.result.count in
     let f = residual_by i micros in
     let y = c.in-Some-residual.residual.0 in
     let left : length at.t-iterator.a.rest.now ≡ suc (length c.next.new.self.a.rest.now) = ap length s.0 in
@@ -72,7 +70,7 @@ loop-t-preserved c =
     let s = c.in-Some.ensures.steps in
     let i = inputs_by self in
     let x = c.in-Some.t.now in
-    let micros = back c.microseconds_of-micros.result in
+    let micros = c.microseconds_of-micros.result.count in
     let f = residual_by i micros in
     let left : length at.t-iterator.a.rest.now ≡ suc (length c.next.new.self.a.rest.now) = ap length s.0 in
     let near : nat_abs x ≤ farthest_instant = rw s.0 at at.invariant.near 0 in
@@ -93,12 +91,11 @@ returns c =
     let at = c.loop-t in
     let i = inputs_by self in
     let micros = c.microseconds_of-micros in
-    let micros_are : back micros.result ≡ whole_microseconds c.args.shift.seconds.0 = to_z-of_z w64 micros.result (record { sfits = micros.type_inv }) ∙ micros.ensures.0 in
     let ss = at.t-iterator.a.rest.now in
     let bs = at.t-iterator.b.rest.now in
     let ended : (length ss ≡ 0) ⊎ (length bs ≡ 0) = elim c.in-None.ensures.steps [ inl w ↦ inl w.1.0 | inr w ↦ inr w.1.0 ] in (
       omega (arith, at.invariant.few),
-      sym (residuals_end (residual_by i (back micros.result)) ss bs (take at.count at.values) ended)
+      sym (residuals_end (residual_by i micros.result.count) ss bs (take at.count at.values) ended)
           ∙ at.invariant.made
-          ∙ ap (λ (z : ℤ). residuals (residual_by i z) (sampled_by self)) micros_are,
+          ∙ ap (λ (z : ℤ). residuals (residual_by i z) (sampled_by self)) micros.ensures,
     )

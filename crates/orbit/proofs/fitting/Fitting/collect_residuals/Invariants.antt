@@ -17,7 +17,7 @@ residual_by i micros x = residual_in i.settings x.frequency (propagated_by i (x.
 
 abbrev pub invariant-loop-t : goal.invariant-loop-t
 invariant-loop-t l =
-    let residual = residual_by (inputs_by l.self) l.micros in
+    let residual = residual_by (inputs_by l.self) l.micros.count in
     let left = l.t-iterator.a.rest.now in
     record {
       few : l.count + length left ≤ length l.self.recording.instants.now;

@@ -1,11 +1,9 @@
 -- Each sample's instant is a checked one, and those of the filter are the definition's. Assumes nothing.
-use mathlib.Core.Path.{◌≡◌, sym, ap, ap₂, ◌∙◌, subst}
+use mathlib.Core.Path.{sym, ap, ap₂, ◌∙◌, subst}
 use mathlib.Core.Bool.{Bool}
 use mathlib.Core.List.{List}
 use Prim.Native.Nat.{◌≤◌}
 use lib.IntN.{ℤ, pos, nat_abs, ◌-ℤ◌, ◌*ℤ◌}
-use mir.Syntax.{w64}
-use mir.ValLaws.{to_z-of_z}
 use Rattle.std.proofs.Common.{rules}
 use Rattle.std.proofs.lemmas.Iterator.{YieldsList-from_slice}
 use Rattle.std.proofs.lemmas.Iterator.Adapters.{serves_from_places}
@@ -14,7 +12,7 @@ use Rattle.std.proofs.lemmas.List.{get_or_default}
 use Rattle.common.specs.Time.{microsecond}
 use Rattle.checks.specs.Limits.{farthest_instant}
 use Rattle.orbit.specs.Place.{place_of, is_outside}
-use Rattle.orbit.specs.Residuals.{whole_microseconds, lies_outside}
+use Rattle.orbit.specs.Residuals.{lies_outside}
 use Rattle.orbit.proofs.Offsets.{back, near_is}
 use Rattle.orbit.proofs.Collected.{filter_is}
 use borrow.Author.Tests.{tests}
@@ -30,10 +28,8 @@ count-requires-clause-can c =
     let ts = samples.instants.now in (
       tt,
       tt,
-      serves_from_places (YieldsList-from_slice ts (cc)) (λ x q e. search (rules, tests)) (λ x k l e y h. (
-        subst (λ (z : ℤ). nat_abs z ≤ farthest_instant) (sym (ap (λ p. p.now) h ∙ e ∙ get_or_default ts k x.now (pos 0) l)) (samples.checked.near k),
-        search rules,
-      )),
+      serves_from_places (YieldsList-from_slice ts (cc)) (λ x q e. search (rules, tests))
+          (λ x k l e y h. subst (λ (z : ℤ). nat_abs z ≤ farthest_instant) (sym (ap (λ p. p.now) h ∙ e ∙ get_or_default ts k x.now (pos 0) l)) (samples.checked.near k)),
     )
 
 pub returns : goal.returns
@@ -42,8 +38,7 @@ returns c =
     let instants = self.orbit.table.instants.now in
     let ts = self.recording.instants.now in
     let micros = c.microseconds_of-micros in
-    let micros_are : back micros.result ≡ whole_microseconds c.args.shift.seconds.0 = to_z-of_z w64 micros.result (record { sfits = micros.type_inv }) ∙ micros.ensures.0 in
-    let test : ℤ → Bool = λ t. outside_by instants (back micros.result) (back t) in
+    let test : ℤ → Bool = λ t. outside_by instants micros.result.count (back t) in
     count_from_yields_List c.filter-outside.result c.count.result c.count.ensures.ran
     (YieldsList-from_filter _ test (YieldsList-at c.filter-outside.ensures.source (YieldsList-from_slice ts (cc))) c.filter-outside.ensures.closure (λ x b q k. search (rules, tests)))
-    ∙ filter_is test (lies_outside instants c.args.shift.seconds.0) ts (λ k. ap₂ (outside_by instants) micros_are (near_is _ (self.recording.checked.near k)))
+    ∙ filter_is test (lies_outside instants c.args.shift.seconds.0) ts (λ k. ap₂ (outside_by instants) micros.ensures (near_is _ (self.recording.checked.near k)))
