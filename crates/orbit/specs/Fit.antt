@@ -14,7 +14,7 @@ use Rattle.checks.specs.Entries.{first_failing, fit_checks}
 use Rattle.samples.specs.Means.{Sample, recording, instants}
 use Rattle.samples.specs.Approach.{gap_of}
 use Rattle.orbit.specs.declared.stages.Stage.{Stage}
-use Rattle.orbit.specs.declared.fit.Measured.{Measured}
+use Rattle.units.specs.declared.Nanoseconds.{Nanoseconds}
 use Rattle.orbit.specs.declared.fit.Report.{Report}
 use Rattle.orbit.specs.Closest.{closest_instant}
 use Rattle.orbit.specs.Residuals.{Inputs, Residual, residual_of, residuals, mean_over, squared_deviation, outside_count}
@@ -108,6 +108,11 @@ module _ (try : Float → Trial) (centre : Float) where
   shifts = coarse_fine ++ further micro_stage (first_least try coarse_fine)
 
 -- ---- the outcome
+
+-- the instant that a fit is taken about, and whether it is the fallback
+pub record Measured : Type 0 where
+  pub instant : Nanoseconds
+  pub fallback : Bool
 
 -- what a report says beside the trial that wins: how many samples were fitted, the instant that the offset was taken about with whether it was the
 -- fallback, and for each shift how many of the samples lie outside the table once moved by it

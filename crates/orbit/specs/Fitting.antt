@@ -4,12 +4,13 @@ use Rattle.common.specs.Rounded.{◌⊖◌}
 use Rattle.common.specs.Search.{first_best}
 use Rattle.units.specs.declared.Hertz.{Hertz}
 use Rattle.samples.specs.Means.{Sample, recording}
+use Rattle.orbit.specs.declared.fit.Approach.{Approach}
 use Rattle.orbit.specs.declared.fitting.Fitting.{Fitting}
 use Rattle.orbit.specs.declared.stages.Stage.{Stage}
 use Rattle.orbit.specs.declared.stages.SearchSpan.{SearchSpan}
 use Rattle.orbit.specs.declared.stages.Candidate.{Candidate}
 use Rattle.orbit.specs.Residuals.{Inputs, inputs_of, settings_of, Residual, skipped, residual, residual_of}
-use Rattle.orbit.specs.Fit.{Trial, trial, Best, none_yet, found, smaller, shifts_of}
+use Rattle.orbit.specs.Fit.{Measured, Trial, trial, Best, none_yet, found, smaller, shifts_of}
 
 -- the inputs of a fit beside its samples
 abbrev pub inputs_by : Fitting → Inputs
@@ -18,6 +19,10 @@ inputs_by f = inputs_of f.orbit.table.instants.now f.orbit.table.positions.now (
 -- its samples
 abbrev pub sampled_by : Fitting → List Sample
 sampled_by f = recording f.recording.instants.now f.recording.frequencies.now
+
+-- the instant that a fit is taken about
+abbrev pub measured_in : Approach → Measured
+measured_in a = record { instant = a.instant.instant; fallback = a.fallback }
 
 -- the trial of a shift
 abbrev pub trial_by : Fitting → Float → Trial

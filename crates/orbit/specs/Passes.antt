@@ -4,9 +4,8 @@ use Rattle.common.specs.Outcome.{Outcome, refused, answered, unless_refused, are
 use Rattle.checks.specs.Entries.{first_failing, pass_checks}
 use Rattle.samples.specs.Means.{Sample, recording, means, instants, frequencies}
 use Rattle.samples.specs.Approach.{approach_of}
-use Rattle.orbit.specs.declared.fit.Measured.{Measured}
 use Rattle.orbit.specs.declared.fit.Report.{Report}
-use Rattle.orbit.specs.Fit.{fit_of}
+use Rattle.orbit.specs.Fit.{Measured, fit_of}
 use Rattle.orbit.specs.Residuals.{Inputs}
 
 -- a measured approach, or else, exactly where it is refused (by 9, the one refusal that `approach_of` has), the fallback: which instant, and which of the two

@@ -1,11 +1,10 @@
 // The fit of a recording to a satellite: the shift of its clock with the first least RMSE.
-ghost use Rattle.std.specs.Prelude.{◌≡◌, ◌≤◌, nat_abs};
+ghost use Rattle.std.specs.Prelude.{◌≡◌};
 ghost use Rattle.common.specs.Refusals.{told};
-ghost use Rattle.checks.specs.Limits.{farthest_instant};
 ghost use Rattle.orbit.specs.Window.{even_tolerance};
 ghost use Rattle.orbit.specs.Residuals.{settings_of, inputs_of};
 ghost use Rattle.orbit.specs.Fit.{fit_of, fit_satellite};
-ghost use Rattle.orbit.specs.Fitting.{inputs_by, sampled_by};
+ghost use Rattle.orbit.specs.Fitting.{inputs_by, sampled_by, measured_in};
 
 use crate::fitting::Fitting;
 use crate::tabulated::TabulatedOrbit;
@@ -30,22 +29,19 @@ pub struct Report {
 
 // The instant that a fit is taken about, and whether it is the fallback.
 #[derive(Clone, Copy)]
-pub(crate) struct Measured {
-    pub(crate) instant: Nanoseconds,
+pub(crate) struct Approach {
+    pub(crate) instant: CheckedInstant,
     pub(crate) fallback: bool,
 }
 
 impl<'t, 'r> Fitting<'t, 'r> {
-    // The fit about a measured instant; refused where no coarse shift is usable. The report is made here alone.
-    pub(crate) fn fit_about(&self, measured: Measured) -> Result<Report, Refusal>
-        requires { nat_abs measured.instant.0 ≤ farthest_instant }
-        ensures { told (λ (r : Report). r) result ≡ fit_of (inputs_by self.now) (sampled_by self.now) measured }
+    // The fit about an instant; refused where no coarse shift is usable. The report is made here alone.
+    pub(crate) fn fit_about(&self, approach: Approach) -> Result<Report, Refusal>
+        ensures { told (λ (r : Report). r) result ≡ fit_of (inputs_by self.now) (sampled_by self.now) (measured_in approach) }
     {
-        let around = CheckedInstant {
-            instant: measured.instant,
-        };
-        let predicted = self.orbit.closest(self.observer, around);
-        let centre = gap_between(predicted, measured.instant);
+        let measured = approach.instant.instant;
+        let predicted = self.orbit.closest(self.observer, approach.instant);
+        let centre = gap_between(predicted, measured);
         let mut values = [0.0; MOST_SAMPLES];
         let best = self
             .best_candidate(centre, &mut values)
@@ -55,8 +51,8 @@ impl<'t, 'r> Fitting<'t, 'r> {
             frequency_offset: best.frequency_offset,
             rmse: best.rmse,
             count: self.recording.instants.len(),
-            approach: measured.instant,
-            fallback: measured.fallback,
+            approach: measured,
+            fallback: approach.fallback,
             outside: self.count_outside(best.shift),
         })
     }
@@ -99,8 +95,8 @@ pub fn fit_satellite(
         observer,
         f0,
     };
-    fitting.fit_about(Measured {
-        instant: measured,
+    fitting.fit_about(Approach {
+        instant: CheckedInstant { instant: measured },
         fallback: false,
     })
 }

@@ -9,7 +9,6 @@ mod place;
 mod propagation;
 mod residuals;
 mod search;
-mod settings;
 mod shift;
 mod stages;
 mod tabulated;

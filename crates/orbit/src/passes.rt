@@ -1,34 +1,35 @@
 // The whole pass: checks, one-second means, their measured approach, and the fit on the means.
-ghost use Rattle.std.specs.Prelude.{◌≡◌, ◌≤◌, nat_abs};
+ghost use Rattle.std.specs.Prelude.{◌≡◌};
 ghost use Rattle.common.specs.Refusals.{told};
-ghost use Rattle.checks.specs.Limits.{farthest_instant};
 ghost use Rattle.orbit.specs.Window.{even_tolerance};
 ghost use Rattle.orbit.specs.Residuals.{settings_of, inputs_of};
+ghost use Rattle.orbit.specs.Fitting.{measured_in};
 ghost use Rattle.orbit.specs.Passes.{measured_by, pass, pass_instants, pass_frequencies};
 ghost use Rattle.orbit.specs.declared.fit.Report.{Report};
 
-use crate::fit::{Measured, Report};
+use crate::fit::{Approach, Report};
 use crate::fitting::Fitting;
 use crate::tabulated::TabulatedOrbit;
-use checks::{OrbitTable, Recording, refuse_pass};
+use checks::{CheckedInstant, OrbitTable, Recording, refuse_pass};
 use common::Refusal;
 use samples::{downsample_data, estimate_measured_pca_time};
 use units::{Hertz, Nanoseconds, Observer};
 
 impl<'t, 'r> Fitting<'t, 'r> {
     // The measured approach of the samples, or else, where no slope of theirs is below zero, the fallback: the instant of the one at index count/2.
-    fn approach_or_middle(&self) -> Measured
-        ensures { (result ≡ measured_by self.now.recording.instants.now self.now.recording.frequencies.now)
-            × (nat_abs result.instant.0 ≤ farthest_instant) }
+    fn approach_or_middle(&self) -> Approach
+        ensures { measured_in result ≡ measured_by self.now.recording.instants.now self.now.recording.frequencies.now }
     {
         let samples = self.recording.instants;
         match estimate_measured_pca_time(samples, self.recording.frequencies) {
-            Ok(instant) => Measured {
-                instant,
+            Ok(instant) => Approach {
+                instant: CheckedInstant { instant },
                 fallback: false,
             },
-            Err(_) => Measured {
-                instant: Nanoseconds(samples[samples.len() / 2]),
+            Err(_) => Approach {
+                instant: CheckedInstant {
+                    instant: Nanoseconds(samples[samples.len() / 2]),
+                },
                 fallback: true,
             },
         }

@@ -2,9 +2,11 @@
 ghost use Rattle.std.specs.Prelude.{◌≡◌};
 ghost use Rattle.orbit.specs.Window.{even_tolerance};
 
-use crate::settings::EVEN_TOLERANCE;
 use checks::OrbitTable;
 use units::Seconds;
+
+// How far a gap of an even window may be off the mean gap, in every entry.
+const EVEN_TOLERANCE: Seconds = Seconds(1.0);
 
 // A table that passed its checks, and how far a gap of an even window may be off the mean gap.
 #[derive(Clone, Copy)]

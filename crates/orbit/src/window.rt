@@ -1,8 +1,7 @@
 // The window of ten coordinates about an instant, and its Chebyshev model.
 ghost use Rattle.std.specs.Prelude.{◌≡◌, ◌+◌, ◌<◌, ◌≤◌, length};
 ghost use Rattle.common.specs.Refusals.{told};
-ghost use Rattle.checks.specs.Limits.{axes};
-ghost use Rattle.orbit.specs.Window.{last_before, start_of, window_start, seconds_of, window_seconds, uneven, tau_of, node_matrix, axis_of};
+ghost use Rattle.orbit.specs.Window.{last_before, start_of, window_start, seconds_of, window_seconds, uneven, tau_of, node_matrix, place_of_axis, axis_of};
 ghost use Rattle.orbit.specs.Window.{model_at, get_chebyshev_model};
 
 use crate::tabulated::TabulatedOrbit;
@@ -61,6 +60,14 @@ pub(crate) fn tau_of(t0: Seconds, t9: Seconds, t: Seconds) -> f64
     2.0 * (t.0 - t0.0) / (t9.0 - t0.0) - 1.0
 }
 
+// An axis, by its place among the three doubles of a coordinate.
+#[derive(Clone, Copy)]
+enum Axis {
+    X,
+    Y,
+    Z,
+}
+
 // The window of ten coordinates of a table from one on.
 #[derive(Clone, Copy)]
 pub(crate) struct Window<'t> {
@@ -114,14 +121,13 @@ impl Window<'_> {
         from_fn(|k| seconds_of(Nanoseconds(instants[self.start + k])).0)
     }
 
-    // One axis of its ten positions: 0 is x, 1 is y, 2 is z.
-    fn axis(&self, axis: usize) -> [f64; 10]
-        requires { axis < axes }
-        ensures { result ≡ axis_of self.now.orbit.now.table.positions.now self.now.start axis }
+    // One axis of its ten positions.
+    fn axis(&self, axis: Axis) -> [f64; 10]
+        ensures { result ≡ axis_of self.now.orbit.now.table.positions.now self.now.start (place_of_axis axis) }
     {
         let orbit = self.orbit;
         let positions = orbit.table.positions;
-        from_fn(|k| positions[AXES * (self.start + k) + axis])
+        from_fn(|k| positions[AXES * (self.start + k) + axis as usize])
     }
 
     // Its model: of an even one by the ideal inverse, else by that of its own nodes' matrix, refused where that has none.
@@ -137,18 +143,18 @@ impl Window<'_> {
         if is_uneven(t, orbit.tolerance) {
             let Coefficients { cx, cy, cz } = coefficients_through(
                 nodes_of(t),
-                self.axis(0),
-                self.axis(1),
-                self.axis(2),
+                self.axis(Axis::X),
+                self.axis(Axis::Y),
+                self.axis(Axis::Z),
             )?;
             return Ok(ChebyshevOrbit { t0, t9, cx, cy, cz });
         }
         Ok(ChebyshevOrbit {
             t0,
             t9,
-            cx: ideal_coefficients(self.axis(0)),
-            cy: ideal_coefficients(self.axis(1)),
-            cz: ideal_coefficients(self.axis(2)),
+            cx: ideal_coefficients(self.axis(Axis::X)),
+            cy: ideal_coefficients(self.axis(Axis::Y)),
+            cz: ideal_coefficients(self.axis(Axis::Z)),
         })
     }
 }

@@ -21,10 +21,10 @@ invariant_of-recording c =
     let a = c.args in
     record { checked = fit_samples a.instants.now a.positions.now a.samples.now a.frequencies.now a.observer a.f0 a.measured.0 (sym c.in_ok-refuse_fit.ensures) }
 
-pub fit_about-requires : goal.fit_about-requires
-fit_about-requires c =
+pub invariant_of-fit_about : goal.invariant_of-fit_about
+invariant_of-fit_about c =
     let a = c.args in
-    fit_near a.instants.now a.positions.now a.samples.now a.frequencies.now a.observer a.f0 a.measured.0 (sym c.in_ok-refuse_fit.ensures)
+    record { near = fit_near a.instants.now a.positions.now a.samples.now a.frequencies.now a.observer a.f0 a.measured.0 (sym c.in_ok-refuse_fit.ensures) }
 
 pub returns : goal.returns
 unfolding of_bits

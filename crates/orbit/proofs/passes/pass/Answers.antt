@@ -20,6 +20,7 @@ use Rattle.orbit.specs.Window.{even_tolerance}
 use Rattle.orbit.specs.declared.tabulated.TabulatedOrbit.{TabulatedOrbit}
 use Rattle.orbit.specs.Fit.{fit_of}
 use Rattle.orbit.specs.Residuals.{Inputs, settings_of, inputs_of}
+use Rattle.orbit.specs.Fitting.{measured_in}
 use Rattle.orbit.specs.Passes.{measured_by, measured_of, pass_outcome, pass_refusal}
 use Rattle.orbit.proofs.Trials.{length_front}
 use Rattle.orbit.proofs.Middles.{by_parts, means-sampled, front, same_count, not_refused}
@@ -168,8 +169,8 @@ returns c =
     let S = recording (take n d.new.mean_instants) (take n d.new.mean_frequencies) in
     record {
       result_value = c.fit_about.ensures
-          ∙ ap (λ (o : TabulatedOrbit). fit_of (inputs_of o.table.instants.now o.table.positions.now (settings_of a.observer a.f0 o.tolerance)) S c.approach_or_middle.result) c.even-orbit.ensures
-          ∙ ap (fit_of (inputs g) S) c.approach_or_middle.ensures.0
+          ∙ ap (λ (o : TabulatedOrbit). fit_of (inputs_of o.table.instants.now o.table.positions.now (settings_of a.observer a.f0 o.tolerance)) S (measured_in c.approach_or_middle.result)) c.even-orbit.ensures
+          ∙ ap (fit_of (inputs g) S) c.approach_or_middle.ensures
           ∙ front_fitted g none n c.in_ok-count.ensures.result_value d.new.mean_instants d.new.mean_frequencies d.ensures.mean_instants_after d.ensures.mean_frequencies_after
           ∙ unless_none 0 (refusal g) (pass_outcome (inputs g) (recording g.ts g.fs)) c.in_ok-refuse_pass.ensures refl;
       mean_instants_after = instants_promised g none d.new.mean_instants d.ensures.mean_instants_after;
