@@ -1,5 +1,5 @@
--- The body's lines by places: what they say from a place on is what the line there says and then what those behind it say, and nothing at EOF and at
--- the end. So a look over them counts, and a walk along them writes, one line a turn. Assumes nothing.
+-- What the lines of a body say: what the first says and then what those behind it say, and nothing at EOF and at the end. So a look over them counts,
+-- and a walk along them writes, one line a turn. Assumes nothing.
 use mathlib.Core.Path.{◌≡◌, refl, sym, ap, ◌∙◌}
 use mathlib.Core.Bool.{Bool, true, false, cond}
 use mathlib.Core.List.{List, [], ◌∷◌, ◌++◌, map, map-append}
