@@ -1,9 +1,11 @@
--- Inner: what a fit is given and what its search holds, as the Rust keeps them and as the definitions have them.
-use Rattle.std.specs.Prelude.{cond, true, List, map, Float, Option, Some, None}
+-- Inner: an axis, what a fit is given and what its search holds, as the Rust keeps them and as the definitions have them.
+use Rattle.std.specs.Prelude.{ℕ, cond, true, List, map, Float, Option, Some, None}
 use Rattle.common.specs.Rounded.{◌⊖◌}
 use Rattle.common.specs.Search.{first_best}
 use Rattle.units.specs.declared.Hertz.{Hertz}
 use Rattle.samples.specs.Means.{Sample, recording}
+use Rattle.orbit.specs.declared.window.Axis.{Axis}
+use Rattle.orbit.specs.declared.window.Axis.TheVariants.{X, Y, Z}
 use Rattle.orbit.specs.declared.fit.Approach.{Approach}
 use Rattle.orbit.specs.declared.fitting.Fitting.{Fitting}
 use Rattle.orbit.specs.declared.stages.Stage.{Stage}
@@ -11,6 +13,12 @@ use Rattle.orbit.specs.declared.stages.SearchSpan.{SearchSpan}
 use Rattle.orbit.specs.declared.stages.Candidate.{Candidate}
 use Rattle.orbit.specs.Residuals.{Inputs, inputs_of, settings_of, Residual, skipped, residual, residual_of}
 use Rattle.orbit.specs.Fit.{Measured, Trial, trial, Best, none_yet, found, smaller, shifts_of}
+
+-- an axis by its place among the three doubles of a coordinate
+abbrev pub place_of_axis : Axis → ℕ
+place_of_axis X = 0
+place_of_axis Y = 1
+place_of_axis Z = 2
 
 -- the inputs of a fit beside its samples
 abbrev pub inputs_by : Fitting → Inputs

@@ -18,8 +18,6 @@ use Rattle.common.specs.Outcome.{Outcome, mapped, unless_refused}
 use Rattle.checks.specs.Checks.{any}
 use Rattle.checks.specs.Entries.{first_failing, propagation_checks}
 use Rattle.checks.specs.Limits.{axes}
-use Rattle.orbit.specs.declared.window.Axis.{Axis}
-use Rattle.orbit.specs.declared.window.Axis.TheVariants.{X, Y, Z}
 use Rattle.orbit.specs.declared.window.ChebyshevOrbit.{ChebyshevOrbit}
 
 -- "idx is the last coordinate at or before the instant, or 0": the index k of the first, and the last found so far
@@ -74,12 +72,6 @@ tau_of t0 t9 t = two ⊗ (t ⊖ t0) ⊘ (t9 ⊖ t0) ⊖ one
 -- T0 to T9 at each of the ten times
 abbrev pub node_matrix : List Float → Matrix
 node_matrix t = list_of (λ k. polynomials rounded (tau_of (first_time t) (last_time t) (get_or t k nan))) terms 0
-
--- an axis by its place among the three doubles of a coordinate
-abbrev pub place_of_axis : Axis → ℕ
-place_of_axis X = 0
-place_of_axis Y = 1
-place_of_axis Z = 2
 
 -- one axis of the window's ten positions
 abbrev pub axis_of : List Float → ℕ → ℕ → Row

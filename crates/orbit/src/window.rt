@@ -1,8 +1,9 @@
 // The window of ten coordinates about an instant, and its Chebyshev model.
 ghost use Rattle.std.specs.Prelude.{◌≡◌, ◌+◌, ◌<◌, ◌≤◌, length};
 ghost use Rattle.common.specs.Refusals.{told};
-ghost use Rattle.orbit.specs.Window.{last_before, start_of, window_start, seconds_of, window_seconds, uneven, tau_of, node_matrix, place_of_axis, axis_of};
+ghost use Rattle.orbit.specs.Window.{last_before, start_of, window_start, seconds_of, window_seconds, uneven, tau_of, node_matrix, axis_of};
 ghost use Rattle.orbit.specs.Window.{model_at, get_chebyshev_model};
+ghost use Rattle.orbit.specs.Fitting.{place_of_axis};
 
 use crate::tabulated::TabulatedOrbit;
 use chebyshev::{Coefficients, coefficients_through, ideal_coefficients, values_at};

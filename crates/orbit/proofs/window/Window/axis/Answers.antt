@@ -5,7 +5,7 @@ use lib.Ieee.{nan}
 use borrow.Author.Rules.{rules}
 use Rattle.checks.specs.Limits.{axes}
 use Rattle.common.proofs.Made.{made_of_indices}
-use Rattle.orbit.specs.Window.{place_of_axis}
+use Rattle.orbit.specs.Fitting.{place_of_axis}
 use Rattle.orbit.proofs.window.Window.axis.Goals as goal
 
 pub returns : goal.returns
