@@ -9,11 +9,12 @@ use borrow.Author.Tests.{ltb-false, eqb-true, eqb-false, not-false, le-ltb, ne_e
 use lib.Dec.{ltb, eqb}
 use lib.IntN.{ℤ, pos, nat_abs}
 use lib.Ieee.{Float}
-use Rattle.units.specs.declared.Hertz.{Hertz}
+use Rattle.units.specs.declared.Seconds.{Seconds}
 use Rattle.units.specs.declared.Observer.{Observer}
+use Rattle.units.specs.declared.Settings.{Settings}
 use lib.ListN.{length, get_or}
 use Rattle.checks.specs.Limits.{least_coordinates, most_coordinates, axes, most_samples, farthest_instant}
-use Rattle.checks.specs.Checks.{any, miscounted, unsampled, too_short, beyond, unrising}
+use Rattle.checks.specs.Checks.{any, miscounted, unsampled, too_short, beyond, unrising, no_tolerance}
 use Rattle.checks.specs.Entries.{first_failing, propagation_checks, closest_checks, means_checks, samples_checks, fit_checks, pass_checks}
 use Rattle.checks.specs.Checked.{Table, Samples}
 use Rattle.checks.proofs.First.{numbered, passes, without, never, neither}
@@ -67,19 +68,19 @@ areas ss ia fa h =
 
 -- the entries: each check by its place in the entry's list
 
-module _ (ts : List ℤ) (ps : List Float) (t : ℤ) (h : first_failing (propagation_checks ts ps t) ≡ 0) where
+module _ (ts : List ℤ) (ps : List Float) (t : ℤ) (tolerance : Seconds) (h : first_failing (propagation_checks ts ps t tolerance) ≡ 0) where
   pub propagation_table : Table ts ps
   unfolding numbered
-  propagation_table = table ts ps (passes (propagation_checks ts ps t) 0 tt h) (passes (propagation_checks ts ps t) 1 tt h) (passes (propagation_checks ts ps t) 3 tt h)
+  propagation_table = table ts ps (passes (propagation_checks ts ps t tolerance) 0 tt h) (passes (propagation_checks ts ps t tolerance) 1 tt h) (passes (propagation_checks ts ps t tolerance) 3 tt h)
 
-module _ (ts : List ℤ) (ps : List Float) (o : Observer) (t : ℤ) (h : first_failing (closest_checks ts ps o t) ≡ 0) where
+module _ (ts : List ℤ) (ps : List Float) (o : Observer) (t : ℤ) (tolerance : Seconds) (h : first_failing (closest_checks ts ps o t tolerance) ≡ 0) where
   pub closest_table : Table ts ps
   unfolding numbered
-  closest_table = table ts ps (passes (closest_checks ts ps o t) 0 tt h) (passes (closest_checks ts ps o t) 1 tt h) (passes (closest_checks ts ps o t) 3 tt h)
+  closest_table = table ts ps (passes (closest_checks ts ps o t tolerance) 0 tt h) (passes (closest_checks ts ps o t tolerance) 1 tt h) (passes (closest_checks ts ps o t tolerance) 3 tt h)
 
   pub closest_near : nat_abs t ≤ farthest_instant
   unfolding numbered
-  closest_near = near-one t (passes (closest_checks ts ps o t) 2 tt h)
+  closest_near = near-one t (passes (closest_checks ts ps o t tolerance) 2 tt h)
 
 pub samples-samples : (ss : List ℤ) (fs : List Float) → first_failing (samples_checks ss fs) ≡ 0 → Samples ss fs
 unfolding numbered
@@ -94,36 +95,40 @@ module _ (ss : List ℤ) (fs : List Float) (ia : List ℤ) (fa : List Float) (h 
   unfolding numbered
   means_areas = areas ss ia fa (passes (means_checks ss fs ia fa) 1 tt h)
 
-module _ (ts : List ℤ) (ps : List Float) (ss : List ℤ) (fs : List Float) (o : Observer) (f0 : Hertz) (t : ℤ) (h : first_failing (fit_checks ts ps ss fs o f0 t) ≡ 0) where
+module _ (ts : List ℤ) (ps : List Float) (ss : List ℤ) (fs : List Float) (s : Settings) (t : ℤ) (h : first_failing (fit_checks ts ps ss fs s t) ≡ 0) where
   pub fit_table : Table ts ps
   unfolding numbered
-  fit_table = table ts ps (passes (fit_checks ts ps ss fs o f0 t) 0 tt h) (passes (fit_checks ts ps ss fs o f0 t) 2 tt h) (passes (fit_checks ts ps ss fs o f0 t) 5 tt h)
+  fit_table = table ts ps (passes (fit_checks ts ps ss fs s t) 0 tt h) (passes (fit_checks ts ps ss fs s t) 2 tt h) (passes (fit_checks ts ps ss fs s t) 5 tt h)
 
   pub fit_samples : Samples ss fs
   unfolding numbered
-  fit_samples = samples ss fs (passes (fit_checks ts ps ss fs o f0 t) 1 tt h) (passes (fit_checks ts ps ss fs o f0 t) 3 tt h)
+  fit_samples = samples ss fs (passes (fit_checks ts ps ss fs s t) 1 tt h) (passes (fit_checks ts ps ss fs s t) 3 tt h)
 
   pub fit_near : nat_abs t ≤ farthest_instant
   unfolding numbered
-  fit_near = near-one t (passes (fit_checks ts ps ss fs o f0 t) 4 tt h)
+  fit_near = near-one t (passes (fit_checks ts ps ss fs s t) 4 tt h)
 
-module _ (ts : List ℤ) (ps : List Float) (ss : List ℤ) (fs : List Float) (o : Observer) (f0 : Hertz) (ia : List ℤ) (fa : List Float) (h : first_failing (pass_checks ts ps ss fs o f0 ia fa) ≡ 0) where
+module _ (ts : List ℤ) (ps : List Float) (ss : List ℤ) (fs : List Float) (s : Settings) (ia : List ℤ) (fa : List Float) (h : first_failing (pass_checks ts ps ss fs s ia fa) ≡ 0) where
   pub pass-table : Table ts ps
   unfolding numbered
-  pass-table = table ts ps (passes (pass_checks ts ps ss fs o f0 ia fa) 0 tt h) (passes (pass_checks ts ps ss fs o f0 ia fa) 3 tt h) (passes (pass_checks ts ps ss fs o f0 ia fa) 5 tt h)
+  pass-table = table ts ps (passes (pass_checks ts ps ss fs s ia fa) 0 tt h) (passes (pass_checks ts ps ss fs s ia fa) 3 tt h) (passes (pass_checks ts ps ss fs s ia fa) 5 tt h)
 
   pub pass-samples : Samples ss fs
   unfolding numbered
-  pass-samples = samples ss fs (passes (pass_checks ts ps ss fs o f0 ia fa) 1 tt h) (passes (pass_checks ts ps ss fs o f0 ia fa) 4 tt h)
+  pass-samples = samples ss fs (passes (pass_checks ts ps ss fs s ia fa) 1 tt h) (passes (pass_checks ts ps ss fs s ia fa) 4 tt h)
 
   pub pass_areas : (length ss ≤ length ia) × (length ss ≤ length fa)
   unfolding numbered
-  pass_areas = areas ss ia fa (passes (pass_checks ts ps ss fs o f0 ia fa) 2 tt h)
+  pass_areas = areas ss ia fa (passes (pass_checks ts ps ss fs s ia fa) 2 tt h)
+
+  pub pass_tolerance : no_tolerance s.tolerance ≡ false
+  unfolding numbered
+  pass_tolerance = passes (pass_checks ts ps ss fs s ia fa) 10 tt h
 
 -- check 10 is none of the pass's
-pub pass_never_ten : (ts : List ℤ) (ps : List Float) (ss : List ℤ) (fs : List Float) (o : Observer) (f0 : Hertz) (ia : List ℤ) (fa : List Float) → first_failing (pass_checks ts ps ss fs o f0 ia fa) ≡ 10 → ⊥
+pub pass_never_ten : (ts : List ℤ) (ps : List Float) (ss : List ℤ) (fs : List Float) (s : Settings) (ia : List ℤ) (fa : List Float) → first_failing (pass_checks ts ps ss fs s ia fa) ≡ 10 → ⊥
 unfolding without
-pass_never_ten ts ps ss fs o f0 ia fa = never 9 (pass_checks ts ps ss fs o f0 ia fa) tt
+pass_never_ten ts ps ss fs s ia fa = never 9 (pass_checks ts ps ss fs s ia fa) tt
 
 -- the other way
 

@@ -1,4 +1,4 @@
--- Checks 1 to 7 of document 01: each says when it fails. Where its words have a number, "…" stands for it: Limits has them all.
+-- Checks 1 to 7 of document 01, and 16 of document 02: each says when it fails. Where its words have a number, "…" stands for it: Limits has them all.
 use Rattle.std.specs.Prelude.{◌*◌, Bool, true, false, not, ◌&&◌, ◌||◌, List, [], ◌∷◌, ltb, eqb, ℤ, nat_abs, length, Float}
 use Rattle.std.specs.List.{list_any}
 use Rattle.std.specs.Int.Signed.{lt_z}
@@ -6,6 +6,7 @@ use Rattle.std.specs.Float.{nan, inf, fin}
 use Rattle.std.specs.Float.Ieee.{lt, le}
 use Rattle.float.specs.Signs.{magnitude_of}
 use Rattle.units.specs.declared.Observer.{Observer}
+use Rattle.units.specs.declared.Seconds.{Seconds}
 use Rattle.checks.specs.Limits.{least_coordinates, most_coordinates, axes, most_samples, farthest_instant, largest_component, least_component}
 use Rattle.common.specs.Numbers.{nought}
 
@@ -70,3 +71,7 @@ not_finite (fin s m e) = false
 -- 7. "or a centre frequency not finite or not above zero"
 abbrev pub no_centre : Float → Bool
 no_centre f0 = not_finite f0 || not (lt nought f0)
+
+-- 16. "a tolerance not finite or below zero": −0.0 is not below it
+abbrev pub no_tolerance : Seconds → Bool
+no_tolerance tolerance = not_finite tolerance.0 || lt tolerance.0 nought

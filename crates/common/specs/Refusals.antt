@@ -2,7 +2,7 @@
 use Rattle.std.specs.Prelude.{ℕ, Result, Ok, Err}
 use Rattle.common.specs.declared.refusal.Refusal.{Refusal}
 use Rattle.common.specs.declared.refusal.Refusal.TheVariants.{Coordinates, Samples, Areas, Instants, Order, Places, Frequencies, Singular}
-use Rattle.common.specs.declared.refusal.Refusal.TheVariants.{NoFall, NoShift, Undescribed, TimeSystem, Records, Entries, NotFinite}
+use Rattle.common.specs.declared.refusal.Refusal.TheVariants.{NoFall, NoShift, Undescribed, TimeSystem, Records, Entries, NotFinite, Tolerance}
 use Rattle.common.specs.Outcome.{Outcome, refused, answered}
 
 -- the papers' number of each
@@ -22,6 +22,7 @@ number_of TimeSystem = 12
 number_of Records = 13
 number_of Entries = 14
 number_of NotFinite = 15
+number_of Tolerance = 16
 
 -- the number of a result's refusal, 0 where there is an answer
 abbrev pub refusal_of : {A : Type 0} → Result A Refusal → ℕ

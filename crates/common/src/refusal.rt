@@ -35,6 +35,8 @@ pub enum Refusal {
     Entries = 14,
     // a double of a board's entry that is not finite
     NotFinite = 15,
+    // a tolerance that is not finite or below zero
+    Tolerance = 16,
 }
 
 impl Refusal {

@@ -15,7 +15,7 @@ use Rattle.chebyshev.specs.Inverse.{Matrix, singular_refusal}
 use Rattle.common.specs.Lists.{those, how_many}
 use Rattle.common.proofs.Those.{those-map}
 use Rattle.common.specs.Outcome.{Outcome, refused, answered, mapped, unless_refused, area}
-use Rattle.checks.proofs.Checked.{pass_areas, pass_never_ten}
+use Rattle.checks.proofs.Checked.{pass_areas, pass_tolerance, pass_never_ten}
 use Rattle.samples.specs.Means.{Sample, recording, means, instants, frequencies, Alike}
 use Rattle.samples.proofs.FirstSlope.{nine-exactly, first_approach}
 use Rattle.samples.proofs.Seconds.{rising, held, listed, seconds_are, count-means, few-means, same-means}
@@ -185,24 +185,25 @@ few-recorded (t ∷ ts) [] = omega arith
 few-recorded (t ∷ ts) (f ∷ fs) = let r = few-recorded ts fs in omega arith
 
 module _ (i : Inputs) (ts : List ℤ) (fs : List Float) (a : List ℤ) (b : List Float) where
-  -- a call that passes checks 1 to 7 answers its recording's outcome, with its means at the front of the areas
+  -- a call that passes checks 1 to 7 and 16 answers its recording's outcome, with its means at the front of the areas
   pub one_call : pass_refusal i ts fs a b ≡ 0 → Call i ts fs a b (means (recording ts fs))
   one_call p =
       let M = means (recording ts fs) in
       let few = few-means (recording ts fs) in
       let all = few-recorded ts fs in
-      let held = pass_areas i.instants i.positions ts fs i.settings.observer i.settings.f0 a b p in
+      let held = pass_areas i.instants i.positions ts fs i.settings a b p in
       record {
+        tolerated = pass_tolerance i.instants i.positions ts fs i.settings a b p;
         outcome_is = ap (λ (k : ℕ). unless_refused k (pass_outcome i (recording ts fs))) p;
         fits = (omega (arith, held.0), omega (arith, held.1));
         instants_are = front (pass_refusal i ts fs a b) (length M) (instants M) a p (length-map M (λ (x : Sample). x.instant));
         frequencies_are = front (pass_refusal i ts fs a b) (length M) (frequencies M) b p (length-map M (λ (x : Sample). x.frequency));
       }
 
-  -- a call answers 10 exactly when it passes checks 1 to 7 and no coarse shift is usable
+  -- a call answers 10 exactly when it passes checks 1 to 7 and 16 and no coarse shift is usable
   pub ten_exactly : (pass i ts fs a b ≡ refused none_usable_refusal) ↔ ((pass_refusal i ts fs a b ≡ 0) × NoCoarse (tried i (recording ts fs)) (centre_for i (recording ts fs)))
   ten_exactly = (
-    λ e. let r = go (pass_refusal i ts fs a b) (pass_never_ten i.instants i.positions ts fs i.settings.observer i.settings.f0 a b) e in (r.0, (demand_3 i (recording ts fs)).refusal.0 r.1),
+    λ e. let r = go (pass_refusal i ts fs a b) (pass_never_ten i.instants i.positions ts fs i.settings a b) e in (r.0, (demand_3 i (recording ts fs)).refusal.0 r.1),
     λ h. (one_call h.0).outcome_is ∙ (demand_3 i (recording ts fs)).refusal.1 h.1,
   )
     where

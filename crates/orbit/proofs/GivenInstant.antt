@@ -24,14 +24,14 @@ based basis (found t) r e = let same : r ≡ report_of_trial basis t = cc in (ap
 -- "always no at the fit entry, which is given its instant"; "its samples standing for the means", those that lie outside are counted of the samples
 pub given-reported : (i : Inputs) (ts : List ℤ) (fs : List Float) (t : ℤ) (r : Report) → fit_satellite i ts fs t ≡ answered r → (r.approach.0 ≡ t) × (r.fallback ≡ false) × (r.outside ≡ outside_count i.instants ts r.clock_offset.0)
 unfolding fit_by_trials
-given-reported i ts fs t r e = go (first_failing (fit_checks i.instants i.positions ts fs i.settings.observer i.settings.f0 t)) refl e
+given-reported i ts fs t r e = go (first_failing (fit_checks i.instants i.positions ts fs i.settings t)) refl e
   where
-    go : (n : ℕ) → first_failing (fit_checks i.instants i.positions ts fs i.settings.observer i.settings.f0 t) ≡ n → unless_refused n (fit_of i (recording ts fs) (given t)) ≡ answered r
+    go : (n : ℕ) → first_failing (fit_checks i.instants i.positions ts fs i.settings t) ≡ n → unless_refused n (fit_of i (recording ts fs) (given t)) ≡ answered r
         → (r.approach.0 ≡ t) × (r.fallback ≡ false) × (r.outside ≡ outside_count i.instants ts r.clock_offset.0)
     go zero p e =
         let S = recording ts fs in
         let try = trial (residual_of i) S in
         let made = based (basis_of i.instants S (given t)) (first_least try (shifts try (centre_of i t))) r e in
-        let same = (fit_samples i.instants i.positions ts fs i.settings.observer i.settings.f0 t p).same in
+        let same = (fit_samples i.instants i.positions ts fs i.settings t p).same in
         (ap (λ x. x.0) made.0, made.1, made.2 ∙ ap (λ (l : List ℤ). outside_count i.instants l r.clock_offset.0) (record_instants ts fs same))
     go (suc n) p e = absurd (not_refused (suc n) r e)

@@ -3,6 +3,7 @@ mod Searches
 pub mod PlaceLaws
 pub mod WindowStarts
 pub mod Models
+pub mod Tolerances
 mod Offsets
 pub mod FirstRange
 mod Ranges

@@ -1,4 +1,4 @@
--- A worked pair for `two_calls`: the samples of seconds 0 and −1 mixed, with second 0 not even in the order of time, and the same samples second by second. Both calls pass checks 1 to 7, into
+-- A worked pair for `two_calls`: the samples of seconds 0 and −1 mixed, with second 0 not even in the order of time, and the same samples second by second. Both calls pass checks 1 to 7 and 16, into
 -- areas of other lengths and contents; the recordings are alike and differ; the means are worked out, and what an offset is taken about. By computing. Assumes nothing.
 use mathlib.Core.Path.{◌≡◌, refl, ◌∙◌, ap}
 use mathlib.Core.Logic.{◌≢◌}
@@ -15,8 +15,7 @@ use Rattle.common.specs.Sums.{sum_from}
 use Rattle.common.specs.Lists.{list_of}
 use Rattle.common.specs.Search.{first_best}
 use Rattle.samples.specs.Means.{Sample, recording, bin, insert, seconds, offset_sum, mean_instant, mean_frequency, mean_of, means, instants, Alike}
-use Rattle.common.specs.Numbers.{nought}
-use Rattle.orbit.specs.Window.{even_tolerance}
+use Rattle.common.specs.Numbers.{nought, thousandth}
 use Rattle.orbit.specs.Residuals.{Inputs}
 use Rattle.orbit.specs.Passes.{measured_of, pass_refusal, pass_instants}
 use Rattle.orbit.specs.Demand3.{TwoCalls}
@@ -66,7 +65,7 @@ pub mixed_measured : measured_of (means mixed) ≡ record { instant = record { 0
 unfolding list_of first_best lt
 mixed_measured = ap measured_of mixed_means
 
--- ---- the other inputs: ten coordinates a minute apart, at 7,000 km on each axis, and an observer at 6,400 km on one
+-- ---- the other inputs: ten coordinates a minute apart, at 7,000 km on each axis, an observer at 6,400 km on one, and a tolerance of a millisecond
 
 abbrev minutes : List ℤ
 minutes = pos 0 ∷ pos 60000000000 ∷ pos 120000000000 ∷ pos 180000000000 ∷ pos 240000000000 ∷ pos 300000000000 ∷ pos 360000000000 ∷ pos 420000000000 ∷ pos 480000000000 ∷ pos 540000000000 ∷ []
@@ -78,7 +77,7 @@ others = record {
   settings = record {
     observer = record { x = record { 0 = fin false 3125 (pos 11) }; y = record { 0 = nought }; z = record { 0 = nought } };
     f0 = record { 0 = fin false 1953125 (pos 9) };
-    tolerance = even_tolerance;
+    tolerance = record { 0 = thousandth };
   };
 }
 

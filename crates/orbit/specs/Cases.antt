@@ -1,12 +1,17 @@
 -- Cases by computation. Each says what the definition gives.
-use Rattle.std.specs.Prelude.{◌≡◌, refl, true, false, List, [], ◌∷◌, ℤ, pos, negsuc}
-use Rattle.std.specs.Float.{fin}
-use Rattle.std.specs.Float.Ieee.{round, mul}
-use Rattle.common.specs.Lists.{those}
+use Rattle.std.specs.Prelude.{ℕ, ◌≡◌, refl, true, false, List, [], ◌∷◌, map, ℤ, pos, negsuc, Float}
+use Rattle.std.specs.Float.{nan, inf, fin}
+use Rattle.std.specs.Float.Ieee.{round, lt, sub, mul, div}
+use Rattle.common.specs.Numbers.{nought, minus_zero, one, thousandth}
+use Rattle.common.specs.Lists.{list_of, those}
+use Rattle.float.specs.Signs.{magnitude_of}
+use Rattle.units.specs.declared.Seconds.{Seconds}
+use Rattle.checks.specs.Checks.{not_finite, no_tolerance}
 use Rattle.float.specs.Conversions.{truncated_of}
 use Rattle.orbit.specs.declared.place.Place.TheVariants.{Before, Within, After}
 use Rattle.orbit.specs.Place.{place_of}
 use Rattle.orbit.specs.Residuals.{outside_count}
+use Rattle.orbit.specs.Window.{uneven}
 
 -- a table from 1 ns before 1970 to 9 µs after: 1 ns before its first coordinate, at it, at its last, and 1 ns after that
 abbrev table : List ℤ
@@ -24,3 +29,40 @@ pub outside_cases : (outside_count table (pos 998 ∷ pos 999 ∷ pos 10000 ∷ 
     × (outside_count table (pos 8000 ∷ pos 8001 ∷ []) (fin true 1 (negsuc 18)) ≡ 1)
 unfolding those truncated_of round mul
 outside_cases = (refl, refl)
+
+-- ---- request 2.7
+
+-- a time in seconds
+abbrev by : Float → Seconds
+by x = record { 0 = x }
+
+-- whole seconds
+abbrev whole : ℕ → Float
+whole n = fin false n (pos 0)
+
+-- "a tolerance not finite or below zero": NaN, either infinity, and the least number below zero; not −0.0, 0.0 or the least number above it
+pub tolerance_cases : (no_tolerance (by nan) ≡ true)
+    × (no_tolerance (by (inf false)) ≡ true)
+    × (no_tolerance (by (inf true)) ≡ true)
+    × (no_tolerance (by (fin true 1 (negsuc 1073))) ≡ true)
+    × (no_tolerance (by minus_zero) ≡ false)
+    × (no_tolerance (by nought) ≡ false)
+    × (no_tolerance (by (fin false 1 (negsuc 1073))) ≡ false)
+unfolding not_finite lt
+tolerance_cases = (refl, refl, refl, refl, refl, refl, refl)
+
+-- ten times a minute apart, and the same with the second one a second late: two gaps are off their mean by exactly 1.0 s
+abbrev each_minute : List Float
+each_minute = map whole (0 ∷ 60 ∷ 120 ∷ 180 ∷ 240 ∷ 300 ∷ 360 ∷ 420 ∷ 480 ∷ 540 ∷ [])
+
+abbrev one_late : List Float
+one_late = map whole (0 ∷ 61 ∷ 120 ∷ 180 ∷ 240 ∷ 300 ∷ 360 ∷ 420 ∷ 480 ∷ 540 ∷ [])
+
+-- even at a tolerance of either zero; even at 1.0, not at the next double below it, nor at a millisecond
+pub window_cases : (uneven (by nought) each_minute ≡ false)
+    × (uneven (by minus_zero) each_minute ≡ false)
+    × (uneven (by one) one_late ≡ false)
+    × (uneven (by (fin false 9007199254740991 (negsuc 52))) one_late ≡ true)
+    × (uneven (by thousandth) one_late ≡ true)
+unfolding list_of magnitude_of round lt sub div
+window_cases = (refl, refl, refl, refl, refl)

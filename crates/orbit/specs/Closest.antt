@@ -16,7 +16,6 @@ use Rattle.orbit.specs.declared.closest.Offsets.{Offsets}
 use Rattle.orbit.specs.declared.closest.LeastRange.{LeastRange}
 use Rattle.orbit.specs.declared.place.Located.{Located}
 use Rattle.orbit.specs.declared.propagation.Motion.{Motion}
-use Rattle.orbit.specs.Window.{even_tolerance}
 use Rattle.orbit.specs.Place.{located}
 use Rattle.orbit.specs.Propagation.{propagated}
 
@@ -82,10 +81,10 @@ module _ (tolerance : Seconds) (instants : List ℤ) (positions : List Float) (o
   abbrev pub closest_instant : ℤ
   closest_instant = moved_by_seconds around by_seconds.offset
 
--- ---- the entry: checks 1, 4, 5, 6, never 8
+-- ---- the entry: checks 1, 4, 5, 6, 16, never 8
 
 -- the refusal, or that instant. Request 2.6: "Closest approach says it of the instant it answers"
-abbrev pub find_pca_time : List ℤ → List Float → Observer → ℤ → Outcome (Located ℤ)
-find_pca_time instants positions o t =
-    let found = closest_instant even_tolerance instants positions o t in
-    outcome (first_failing (closest_checks instants positions o t)) (located instants found found)
+abbrev pub find_pca_time : List ℤ → List Float → Observer → ℤ → Seconds → Outcome (Located ℤ)
+find_pca_time instants positions o t tolerance =
+    let found = closest_instant tolerance instants positions o t in
+    outcome (first_failing (closest_checks instants positions o t tolerance)) (located instants found found)

@@ -4,6 +4,7 @@ use Rattle.std.specs.Prelude.{◌≡◌, ◌≢◌, ◌↔◌, Bool, true, false
 use mathlib.Core.List.{List, [], ◌++◌, map, Memᴰ}
 use Rattle.std.specs.Float.{nan, binary64}
 use Rattle.std.specs.Float.Ieee.{lt, le}
+use Rattle.checks.specs.Checks.{no_tolerance}
 use Rattle.chebyshev.specs.Inverse.{singular_refusal}
 use Rattle.common.specs.Numbers.{nought, largest_finite, five, fifteen, tenth, twentieth, thousandth, hundred_thousandth}
 use Rattle.common.specs.Rounded.{◌⊕◌, ◌⊖◌, ◌⊗◌}
@@ -216,7 +217,7 @@ pub record Choice (i : Inputs) (S : List Sample) (k : ℕ) : Type 0 where
 
 -- of any inputs i and recording S: what its means are, how many, how the centre is fixed, when a shift is usable, which the shifts are, when the
 -- outcome is 10, else which place is reported and what stands in the report; and that means and outcome depend on the samples of each whole second
--- and their order there alone. A call that passes checks 1 to 7 answers this outcome (`one_call`)
+-- and their order there alone. A call that passes checks 1 to 7 and 16 answers this outcome (`one_call`)
 pub record Demand3 (i : Inputs) (S : List Sample) : Type 0 where
   pub listed : Listed S
   pub own : Own S
@@ -231,16 +232,18 @@ pub record Demand3 (i : Inputs) (S : List Sample) : Type 0 where
 
 -- ---- two calls of the pass entry
 
--- a call that passes checks 1 to 7: its outcome is that of its recording, and each area holds the means M at its front, which fit, and is untouched
--- behind them, under refusal 10 too
+-- a call that passes checks 1 to 7 and 16: its tolerance is one "that refusal 16 lets pass", its outcome is that of its recording, and each area
+-- holds the means M at its front, which fit, and is untouched behind them, under refusal 10 too
 pub record Call (i : Inputs) (ts : List ℤ) (fs : List Float) (a : List ℤ) (b : List Float) (M : List Sample) : Type 0 where
+  pub tolerated : no_tolerance i.settings.tolerance ≡ false
   pub outcome_is : pass i ts fs a b ≡ pass_outcome i (recording ts fs)
   pub fits : (length M ≤ length a) × (length M ≤ length b)
   pub instants_are : pass_instants i ts fs a b ≡ instants M ++ drop (length M) a
   pub frequencies_are : pass_frequencies i ts fs a b ≡ frequencies M ++ drop (length M) b
 
--- two calls with the same other inputs, whose recordings are alike in the samples of each whole second and their order there: the same outcome and
--- the same means. Nothing relates their areas, nor the order across the seconds
+-- two calls with the same other inputs, the tolerance among them (request 2.7: "Two recordings being compared must have the same tolerance"), whose
+-- recordings are alike in the samples of each whole second and their order there: the same outcome and the same means. Nothing relates their areas,
+-- nor the order across the seconds
 pub record TwoCalls (i : Inputs) (ts : List ℤ) (fs : List Float) (a : List ℤ) (b : List Float) (ts' : List ℤ) (fs' : List Float)
     (a' : List ℤ) (b' : List Float) : Type 0 where
   pub same_report : pass i ts fs a b ≡ pass i ts' fs' a' b'

@@ -168,7 +168,7 @@ centre_of i measured = gap_of (predicted_by i measured) measured
 abbrev pub fit_of : Inputs → List Sample → Measured → Outcome Report
 fit_of i S measured = fit_by_trials (trial (residual_of i) S) (basis_of i.instants S measured) (centre_of i measured.instant.0)
 
--- ---- the entry: checks 1, 2, 4, 5, 6, 7, then 10
+-- ---- the entry: checks 1, 2, 4, 5, 6, 7, 16, then 10
 
 -- request 2.4: "always no at the fit entry, which is given its instant"
 abbrev pub given : ℤ → Measured
@@ -177,5 +177,5 @@ given t = record { instant = record { 0 = t }; fallback = false }
 -- the refusal, or the fit
 abbrev pub fit_satellite : Inputs → List ℤ → List Float → ℤ → Outcome Report
 fit_satellite i ts fs measured =
-    unless_refused (first_failing (fit_checks i.instants i.positions ts fs i.settings.observer i.settings.f0 measured))
+    unless_refused (first_failing (fit_checks i.instants i.positions ts fs i.settings measured))
     (fit_of i (recording ts fs) (given measured))

@@ -29,12 +29,12 @@ measured_of M = measured_by (instants M) (frequencies M)
 abbrev pub pass_outcome : Inputs → List Sample → Outcome Report
 pass_outcome i S = let M = means S in fit_of i M (measured_of M)
 
--- ---- the entry: checks 1 to 7, then 10
+-- ---- the entry: checks 1 to 7 and 16, then 10
 
 -- the number of the first check that fails, 0 where none does
 abbrev pub pass_refusal : Inputs → List ℤ → List Float → List ℤ → List Float → ℕ
 pass_refusal i ts fs instant_area frequency_area =
-    first_failing (pass_checks i.instants i.positions ts fs i.settings.observer i.settings.f0 instant_area frequency_area)
+    first_failing (pass_checks i.instants i.positions ts fs i.settings instant_area frequency_area)
 
 -- a refusal by a check, or the outcome on the means
 abbrev pub pass : Inputs → List ℤ → List Float → List ℤ → List Float → Outcome Report

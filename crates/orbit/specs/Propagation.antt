@@ -11,7 +11,7 @@ use Rattle.orbit.specs.declared.window.ChebyshevOrbit.{ChebyshevOrbit}
 use Rattle.orbit.specs.declared.propagation.Motion.{Motion}
 use Rattle.orbit.specs.declared.place.Located.{Located}
 use Rattle.orbit.specs.Place.{located}
-use Rattle.orbit.specs.Window.{seconds_of, tau_of, even_tolerance, model_about}
+use Rattle.orbit.specs.Window.{seconds_of, tau_of, model_about}
 use Rattle.common.specs.Numbers.{two}
 
 -- τ of an instant in a model's window
@@ -50,7 +50,7 @@ propagated tolerance instants positions t = mapped (λ m. motion_at m t) (model_
 abbrev pub evaluate : ChebyshevOrbit → ℤ → Outcome Motion
 evaluate m t = outcome (first_failing (evaluation_checks t)) (motion_at m t)
 
--- checks 1, 4, 5, 6, then 8. Request 2.6: "Propagation says beside its position" where the instant lies
-abbrev pub propagate_ecef : List ℤ → List Float → ℤ → Outcome (Located Motion)
-propagate_ecef instants positions t =
-    unless_refused (first_failing (propagation_checks instants positions t)) (mapped (located instants t) (propagated even_tolerance instants positions t))
+-- checks 1, 4, 5, 6, 16, then 8. Request 2.6: "Propagation says beside its position" where the instant lies
+abbrev pub propagate_ecef : List ℤ → List Float → ℤ → Seconds → Outcome (Located Motion)
+propagate_ecef instants positions t tolerance =
+    unless_refused (first_failing (propagation_checks instants positions t tolerance)) (mapped (located instants t) (propagated tolerance instants positions t))

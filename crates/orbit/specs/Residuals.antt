@@ -12,6 +12,7 @@ use Rattle.float.specs.Conversions.{nearest_of, truncated_of}
 use Rattle.units.specs.declared.Seconds.{Seconds}
 use Rattle.units.specs.declared.Hertz.{Hertz}
 use Rattle.units.specs.declared.Observer.{Observer}
+use Rattle.units.specs.declared.Settings.{Settings}
 use Rattle.common.specs.Outcome.{Outcome, refused, answered}
 use Rattle.samples.specs.Means.{Sample}
 use Rattle.orbit.specs.Place.{place_of, is_outside}
@@ -20,16 +21,10 @@ use Rattle.orbit.specs.Propagation.{propagated}
 use Rattle.orbit.specs.Closest.{squared, squared_range}
 
 -- where the receiver stands, the centre frequency, and how far a gap of an even window may be off the mean gap
-pub record Settings : Type 0 where
-  pub observer : Observer
-  pub f0 : Hertz
-  pub tolerance : Seconds
-
--- these by their parts
 abbrev pub settings_of : Observer → Hertz → Seconds → Settings
 settings_of observer f0 tolerance = record { observer = observer; f0 = f0; tolerance = tolerance }
 
--- "its other inputs are coordinate instants and positions, observer and centre frequency"; the tolerance of an even window with them
+-- "its other inputs are coordinate instants and positions, observer and centre frequency", and with request 2.7 the tolerance
 pub record Inputs : Type 0 where
   pub instants : List ℤ
   pub positions : List Float

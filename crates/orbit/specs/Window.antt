@@ -37,10 +37,6 @@ start_of idx n = cond (ltb idx 4) 0 (cond (leb n (idx + 5)) (n - terms) (idx - 4
 abbrev pub window_start : List ℤ → ℤ → ℕ
 window_start instants t = start_of (last_before instants t) (length instants)
 
--- the tolerance of an even window, 1.0
-abbrev pub even_tolerance : Seconds
-even_tolerance = record { 0 = one }
-
 -- "Seconds are the rounded nanoseconds times 1e-9"
 abbrev pub seconds_of : ℤ → Float
 seconds_of n = nearest_of n ⊗ billionth
@@ -57,7 +53,8 @@ first_time t = get_or t 0 nan
 abbrev pub last_time : List Float → Float
 last_time t = get_or t 9 nan
 
--- "no gap differs from (t9 − t0)/9 by more than 1.0": the gap after time k is off by more than the tolerance; a NaN is not more
+-- "no gap differs from (t9 − t0)/9 by more than 1.0", where request 2.7 has the tolerance, "an input in seconds", for 1.0: the gap after time k is off
+-- by more than it; a NaN is not more
 abbrev pub wide_gap : Seconds → List Float → ℕ → Bool
 wide_gap tolerance t k = lt tolerance.0 (magnitude_of (get_or t (k + 1) nan ⊖ get_or t k nan ⊖ (last_time t ⊖ first_time t) ⊘ nine))
 
@@ -107,9 +104,9 @@ model_at tolerance instants positions start = let t = window_seconds instants st
 abbrev pub model_about : Seconds → List ℤ → List Float → ℤ → Outcome ChebyshevOrbit
 model_about tolerance instants positions t = model_at tolerance instants positions (window_start instants t)
 
--- ---- the entry: checks 1, 4, 5, 6, then 8
+-- ---- the entry: checks 1, 4, 5, 6, 16, then 8
 
 -- the refusal, or the model
-abbrev pub get_chebyshev_model : List ℤ → List Float → ℤ → Outcome ChebyshevOrbit
-get_chebyshev_model instants positions t =
-    unless_refused (first_failing (propagation_checks instants positions t)) (model_about even_tolerance instants positions t)
+abbrev pub get_chebyshev_model : List ℤ → List Float → ℤ → Seconds → Outcome ChebyshevOrbit
+get_chebyshev_model instants positions t tolerance =
+    unless_refused (first_failing (propagation_checks instants positions t tolerance)) (model_about tolerance instants positions t)

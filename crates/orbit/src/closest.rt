@@ -12,7 +12,7 @@ use crate::tabulated::TabulatedOrbit;
 use checks::{CheckedInstant, OrbitTable, refuse_closest};
 use common::Refusal;
 use float::LARGEST_FINITE;
-use units::{Nanoseconds, Observer, Position, SECOND};
+use units::{Nanoseconds, Observer, Position, SECOND, Seconds};
 
 // The offsets of a stage, in whole seconds: `count` of them from `first` on, each `step` after the last.
 #[derive(Clone, Copy)]
@@ -154,14 +154,17 @@ pub fn find_pca_time(
     positions: &[f64],
     observer: Observer,
     instant: Nanoseconds,
+    tolerance: Seconds,
 ) -> Result<Located<Nanoseconds>, Refusal>
-    ensures { told (with_answer (λ (t : Nanoseconds). t.0)) result ≡ find_pca_time instants.now positions.now observer instant.0 }
+    ensures { told (with_answer (λ (t : Nanoseconds). t.0)) result
+        ≡ find_pca_time instants.now positions.now observer instant.0 tolerance }
 {
-    refuse_closest(instants, positions, observer, instant)?;
-    let orbit = TabulatedOrbit::even(OrbitTable {
+    refuse_closest(instants, positions, observer, instant, tolerance)?;
+    let table = OrbitTable {
         instants,
         positions,
-    });
+    };
+    let orbit = TabulatedOrbit { table, tolerance };
     let answer = orbit.closest(observer, CheckedInstant { instant });
     let place = orbit.place_of(answer);
     Ok(Located { answer, place })

@@ -1,8 +1,7 @@
 // The fit of a recording to a satellite: the shift of its clock with the first least RMSE.
 ghost use Rattle.std.specs.Prelude.{◌≡◌};
 ghost use Rattle.common.specs.Refusals.{told};
-ghost use Rattle.orbit.specs.Window.{even_tolerance};
-ghost use Rattle.orbit.specs.Residuals.{settings_of, inputs_of};
+ghost use Rattle.orbit.specs.Residuals.{inputs_of};
 ghost use Rattle.orbit.specs.Fit.{fit_of, fit_satellite};
 ghost use Rattle.orbit.specs.Fitting.{inputs_by, sampled_by, measured_in};
 
@@ -11,7 +10,7 @@ use crate::tabulated::TabulatedOrbit;
 use checks::{CheckedInstant, MOST_SAMPLES, OrbitTable, Recording, refuse_fit};
 use common::Refusal;
 use samples::gap_between;
-use units::{Hertz, Nanoseconds, Observer, Seconds};
+use units::{Hertz, Nanoseconds, Seconds, Settings};
 
 // Clock offset, frequency offset, RMSE of the residuals, how many samples or means were fitted, the instant that the offset was taken about, and
 // whether that is the fallback: the middle mean's, since no slope of the means is below zero. A fit that is given its instant reports that, and no.
@@ -64,12 +63,11 @@ pub fn fit_satellite(
     positions: &[f64],
     samples: &[i64],
     frequencies: &[f64],
-    observer: Observer,
-    f0: Hertz,
+    settings: Settings,
     measured: Nanoseconds,
 ) -> Result<Report, Refusal>
     ensures { told (λ (r : Report). r) result ≡ fit_satellite
-        (inputs_of instants.now positions.now (settings_of observer f0 even_tolerance))
+        (inputs_of instants.now positions.now settings)
         samples.now frequencies.now measured.0 }
 {
     refuse_fit(
@@ -77,14 +75,17 @@ pub fn fit_satellite(
         positions,
         samples,
         frequencies,
-        observer,
-        f0,
+        settings,
         measured,
     )?;
-    let orbit = TabulatedOrbit::even(OrbitTable {
+    let table = OrbitTable {
         instants,
         positions,
-    });
+    };
+    let orbit = TabulatedOrbit {
+        table,
+        tolerance: settings.tolerance,
+    };
     let recording = Recording {
         instants: samples,
         frequencies,
@@ -92,8 +93,8 @@ pub fn fit_satellite(
     let fitting = Fitting {
         orbit,
         recording,
-        observer,
-        f0,
+        observer: settings.observer,
+        f0: settings.f0,
     };
     fitting.fit_about(Approach {
         instant: CheckedInstant { instant: measured },

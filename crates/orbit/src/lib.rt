@@ -19,4 +19,5 @@ pub use fit::{Report, fit_satellite};
 pub use passes::pass;
 pub use place::{Located, Place};
 pub use propagation::{Motion, evaluate, propagate_ecef};
+pub use tabulated::EVEN_TOLERANCE;
 pub use window::{ChebyshevOrbit, get_chebyshev_model};

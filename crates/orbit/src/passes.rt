@@ -1,8 +1,7 @@
 // The whole pass: checks, one-second means, their measured approach, and the fit on the means.
 ghost use Rattle.std.specs.Prelude.{◌≡◌};
 ghost use Rattle.common.specs.Refusals.{told};
-ghost use Rattle.orbit.specs.Window.{even_tolerance};
-ghost use Rattle.orbit.specs.Residuals.{settings_of, inputs_of};
+ghost use Rattle.orbit.specs.Residuals.{inputs_of};
 ghost use Rattle.orbit.specs.Fitting.{measured_in};
 ghost use Rattle.orbit.specs.Passes.{measured_by, pass, pass_instants, pass_frequencies};
 ghost use Rattle.orbit.specs.declared.fit.Report.{Report};
@@ -13,7 +12,7 @@ use crate::tabulated::TabulatedOrbit;
 use checks::{CheckedInstant, OrbitTable, Recording, refuse_pass};
 use common::Refusal;
 use samples::{downsample_data, estimate_measured_pca_time};
-use units::{Hertz, Nanoseconds, Observer};
+use units::{Nanoseconds, Settings};
 
 impl<'t, 'r> Fitting<'t, 'r> {
     // The measured approach of the samples, or else, where no slope of theirs is below zero, the fallback: the instant of the one at index count/2.
@@ -42,19 +41,18 @@ pub fn pass(
     positions: &[f64],
     samples: &[i64],
     frequencies: &[f64],
-    observer: Observer,
-    f0: Hertz,
+    settings: Settings,
     mean_instants: &mut [i64],
     mean_frequencies: &mut [f64],
 ) -> Result<Report, Refusal>
     ensures result_value { told (λ (r : Report). r) result ≡ pass
-        (inputs_of instants.now positions.now (settings_of observer f0 even_tolerance))
+        (inputs_of instants.now positions.now settings)
         samples.now frequencies.now mean_instants.old mean_frequencies.old }
     ensures mean_instants_after { mean_instants.new ≡ pass_instants
-        (inputs_of instants.now positions.now (settings_of observer f0 even_tolerance))
+        (inputs_of instants.now positions.now settings)
         samples.now frequencies.now mean_instants.old mean_frequencies.old }
     ensures mean_frequencies_after { mean_frequencies.new ≡ pass_frequencies
-        (inputs_of instants.now positions.now (settings_of observer f0 even_tolerance))
+        (inputs_of instants.now positions.now settings)
         samples.now frequencies.now mean_instants.old mean_frequencies.old }
 {
     refuse_pass(
@@ -62,16 +60,19 @@ pub fn pass(
         positions,
         samples,
         frequencies,
-        observer,
-        f0,
+        settings,
         mean_instants,
         mean_frequencies,
     )?;
     let count = downsample_data(samples, frequencies, mean_instants, mean_frequencies)?;
-    let orbit = TabulatedOrbit::even(OrbitTable {
+    let table = OrbitTable {
         instants,
         positions,
-    });
+    };
+    let orbit = TabulatedOrbit {
+        table,
+        tolerance: settings.tolerance,
+    };
     let recording = Recording {
         instants: &mean_instants[..count],
         frequencies: &mean_frequencies[..count],
@@ -79,8 +80,8 @@ pub fn pass(
     let fitting = Fitting {
         orbit,
         recording,
-        observer,
-        f0,
+        observer: settings.observer,
+        f0: settings.f0,
     };
     fitting.fit_about(fitting.approach_or_middle())
 }

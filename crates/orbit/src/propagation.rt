@@ -9,7 +9,7 @@ use crate::window::{ChebyshevOrbit, seconds_of, tau_of};
 use chebyshev::{polynomials_at, weighted_sum};
 use checks::{OrbitTable, refuse_evaluation, refuse_propagation};
 use common::Refusal;
-use units::{Nanoseconds, Position, Velocity};
+use units::{Nanoseconds, Position, Seconds, Velocity};
 
 // Where a satellite is, in metres, and how it moves, in metres for each second.
 #[derive(Clone, Copy)]
@@ -65,14 +65,16 @@ pub fn propagate_ecef(
     instants: &[i64],
     positions: &[f64],
     instant: Nanoseconds,
+    tolerance: Seconds,
 ) -> Result<Located<Motion>, Refusal>
-    ensures { told (λ x. x) result ≡ propagate_ecef instants.now positions.now instant.0 }
+    ensures { told (λ x. x) result ≡ propagate_ecef instants.now positions.now instant.0 tolerance }
 {
-    refuse_propagation(instants, positions, instant)?;
-    let orbit = TabulatedOrbit::even(OrbitTable {
+    refuse_propagation(instants, positions, instant, tolerance)?;
+    let table = OrbitTable {
         instants,
         positions,
-    });
+    };
+    let orbit = TabulatedOrbit { table, tolerance };
     let answer = orbit.propagate(instant)?;
     let place = orbit.place_of(instant);
     Ok(Located { answer, place })

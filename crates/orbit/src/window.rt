@@ -165,13 +165,15 @@ pub fn get_chebyshev_model(
     instants: &[i64],
     positions: &[f64],
     instant: Nanoseconds,
+    tolerance: Seconds,
 ) -> Result<ChebyshevOrbit, Refusal>
-    ensures { told (λ m. m) result ≡ get_chebyshev_model instants.now positions.now instant.0 }
+    ensures { told (λ m. m) result ≡ get_chebyshev_model instants.now positions.now instant.0 tolerance }
 {
-    refuse_propagation(instants, positions, instant)?;
-    let orbit = TabulatedOrbit::even(OrbitTable {
+    refuse_propagation(instants, positions, instant, tolerance)?;
+    let table = OrbitTable {
         instants,
         positions,
-    });
+    };
+    let orbit = TabulatedOrbit { table, tolerance };
     orbit.window(instant).model()
 }

@@ -9,6 +9,7 @@ use lib.IntN.{ℤ, pos}
 use lib.ListN.{length, get_or}
 use lib.Ieee.{Float, lt}
 use Rattle.common.specs.Numbers.{nought}
+use Rattle.units.specs.declared.Seconds.{Seconds}
 use Rattle.units.specs.declared.Observer.{Observer}
 use Rattle.units.specs.declared.LeapSeconds.{LeapSeconds}
 use Rattle.sp3.specs.Entries.{sp3_refusal, records_of, read_sp3}
@@ -22,7 +23,7 @@ use Rattle.samples.specs.Approach.{no_floor, slope_floor, least_slope, approach_
 use Rattle.board.specs.declared.entries.Entry.{Entry}
 use Rattle.board.specs.Board.{board_refusal, board_offset, fleet_board}
 use Rattle.orbit.specs.declared.window.ChebyshevOrbit.{ChebyshevOrbit}
-use Rattle.orbit.specs.Window.{even_tolerance, window_start, window_seconds, inversion_of, model_about, get_chebyshev_model}
+use Rattle.orbit.specs.Window.{window_start, window_seconds, inversion_of, model_about, get_chebyshev_model}
 use Rattle.orbit.specs.Place.{located}
 use Rattle.orbit.specs.Propagation.{motion_at, evaluate, propagate_ecef}
 use Rattle.orbit.specs.Closest.{closest_instant, find_pca_time}
@@ -63,8 +64,8 @@ by_fit : (try : Float → Trial) (basis : Basis) (centre : Float) → Told (fit_
 unfolding fit_by_trials
 by_fit try basis centre = by_best basis (first_least try (shifts try centre))
 
-about : (instants : List ℤ) (positions : List Float) (t : ℤ) → Told (model_about even_tolerance instants positions t)
-about instants positions t = let w = window_seconds instants (window_start instants t) in by_answer _ (inversion_of even_tolerance w) (inversion_told even_tolerance w)
+about : (tolerance : Seconds) (instants : List ℤ) (positions : List Float) (t : ℤ) → Told (model_about tolerance instants positions t)
+about tolerance instants positions t = let w = window_seconds instants (window_start instants t) in by_answer _ (inversion_of tolerance w) (inversion_told tolerance w)
 
 -- ---- the entries
 
@@ -72,20 +73,20 @@ about instants positions t = let w = window_seconds instants (window_start insta
 pub inverse_told : (a : Matrix) → Told (inverted a)
 inverse_told = inverted_told
 
-pub model_told : (instants : List ℤ) (positions : List Float) (t : ℤ) → Told (get_chebyshev_model instants positions t)
-model_told instants positions t = after_checks (first_failing (propagation_checks instants positions t)) (model_about even_tolerance instants positions t) (about instants positions t)
+pub model_told : (instants : List ℤ) (positions : List Float) (t : ℤ) (tolerance : Seconds) → Told (get_chebyshev_model instants positions t tolerance)
+model_told instants positions t tolerance = after_checks (first_failing (propagation_checks instants positions t tolerance)) (model_about tolerance instants positions t) (about tolerance instants positions t)
 
 pub evaluation_told : (m : ChebyshevOrbit) (t : ℤ) → Told (evaluate m t)
 evaluation_told m t = by_checks (first_failing (evaluation_checks t)) (motion_at m t)
 
-pub propagation_told : (instants : List ℤ) (positions : List Float) (t : ℤ) → Told (propagate_ecef instants positions t)
-propagation_told instants positions t =
-    let m = model_about even_tolerance instants positions t in
+pub propagation_told : (instants : List ℤ) (positions : List Float) (t : ℤ) (tolerance : Seconds) → Told (propagate_ecef instants positions t tolerance)
+propagation_told instants positions t tolerance =
+    let m = model_about tolerance instants positions t in
     let found = mapped (λ x. motion_at x t) m in
-    after_checks (first_failing (propagation_checks instants positions t)) (mapped (located instants t) found) (by_answer (located instants t) found (by_answer (λ x. motion_at x t) m (about instants positions t)))
+    after_checks (first_failing (propagation_checks instants positions t tolerance)) (mapped (located instants t) found) (by_answer (located instants t) found (by_answer (λ x. motion_at x t) m (about tolerance instants positions t)))
 
-pub closest_told : (instants : List ℤ) (positions : List Float) (o : Observer) (t : ℤ) → Told (find_pca_time instants positions o t)
-closest_told instants positions o t = let found = closest_instant even_tolerance instants positions o t in by_checks (first_failing (closest_checks instants positions o t)) (located instants found found)
+pub closest_told : (instants : List ℤ) (positions : List Float) (o : Observer) (t : ℤ) (tolerance : Seconds) → Told (find_pca_time instants positions o t tolerance)
+closest_told instants positions o t tolerance = let found = closest_instant tolerance instants positions o t in by_checks (first_failing (closest_checks instants positions o t tolerance)) (located instants found found)
 
 pub means_told : (ts : List ℤ) (fs : List Float) (is : List ℤ) (hs : List Float) → Told (downsample_data ts fs is hs)
 means_told ts fs is hs = by_checks (downsample_refusal ts fs is hs) (length (means (recording ts fs)))
@@ -98,7 +99,7 @@ steepest_told ts fs = by_checks (first_failing (samples_checks ts fs)) (least_sl
 
 pub fit_told : (i : Inputs) (ts : List ℤ) (fs : List Float) (measured : ℤ) → Told (fit_satellite i ts fs measured)
 fit_told i ts fs measured =
-    after_checks (first_failing (fit_checks i.instants i.positions ts fs i.settings.observer i.settings.f0 measured)) (fit_of i (recording ts fs) (given measured))
+    after_checks (first_failing (fit_checks i.instants i.positions ts fs i.settings measured)) (fit_of i (recording ts fs) (given measured))
     (by_fit (trial (residual_of i) (recording ts fs)) (basis_of i.instants (recording ts fs) (given measured)) (centre_of i measured))
 
 pub pass_told : (i : Inputs) (ts : List ℤ) (fs : List Float) (is : List ℤ) (hs : List Float) → Told (pass i ts fs is hs)

@@ -5,13 +5,13 @@ use Rattle.std.specs.Prelude.{ℕ, ◌-◌, cond, List, [], ◌∷◌, ltb, ℤ,
 use Rattle.std.specs.Float.{nan}
 use Rattle.common.specs.Lists.{list_of}
 use Rattle.units.specs.declared.Metres.{Metres}
+use Rattle.units.specs.declared.Seconds.{Seconds}
 use Rattle.units.specs.declared.Hertz.{Hertz}
 use Rattle.units.specs.declared.Observer.{Observer}
 use Rattle.orbit.specs.declared.fit.Report.{Report}
 use Rattle.orbit.specs.declared.place.Place.{Place}
 use Rattle.orbit.specs.declared.place.Place.TheVariants.{Before, Within, After}
 use Rattle.orbit.specs.declared.window.ChebyshevOrbit.{ChebyshevOrbit}
-use Rattle.orbit.specs.Window.{even_tolerance}
 use Rattle.orbit.specs.declared.propagation.Motion.{Motion}
 use Rattle.orbit.specs.Residuals.{Inputs, settings_of, inputs_of}
 use Rattle.orbit_abi.specs.Areas.{row_from}
@@ -54,6 +54,6 @@ fallback_number r = cond r.fallback 1 0
 abbrev pub observer_of : Metres → Metres → Metres → Observer
 observer_of x y z = record { x = x; y = y; z = z }
 
--- the inputs of a fit or a pass beside its samples, with the tolerance of an even window
-abbrev pub inputs_in : List ℤ → List Float → Metres → Metres → Metres → Hertz → Inputs
-inputs_in instants positions x y z f0 = inputs_of instants positions (settings_of (observer_of x y z) f0 even_tolerance)
+-- the inputs of a fit or a pass beside its samples
+abbrev pub inputs_in : List ℤ → List Float → Metres → Metres → Metres → Hertz → Seconds → Inputs
+inputs_in instants positions x y z f0 tolerance = inputs_of instants positions (settings_of (observer_of x y z) f0 tolerance)

@@ -10,7 +10,7 @@ ghost use Rattle.orbit_abi.specs.Models.{inputs_in, report_numbers, fallback_num
 use crate::answers::put;
 use common::Refusal;
 use orbit::Report;
-use units::{Hertz, Metres, Nanoseconds, Observer};
+use units::{Hertz, Metres, Nanoseconds, Observer, Seconds, Settings};
 
 // Clock offset in seconds, frequency offset and RMSE in hertz.
 fn report_numbers(x: Report) -> [f64; 3]
@@ -56,6 +56,7 @@ pub extern "C" fn orbit_fit_satellite(
     oz: Metres,
     f0: Hertz,
     measured: Nanoseconds,
+    tolerance: Seconds,
     report: &mut [f64; 3],
     count: &mut u64,
     approach: &mut i64,
@@ -63,22 +64,22 @@ pub extern "C" fn orbit_fit_satellite(
     outside: &mut u64,
 ) -> u8
     ensures value { result ≡ refusal_in (fit_satellite
-        (inputs_in instants.now positions.now ox oy oz f0)
+        (inputs_in instants.now positions.now ox oy oz f0 tolerance)
         samples.now frequencies.now measured.0) }
     ensures report_after { report.new ≡ area_of report_numbers (fit_satellite
-        (inputs_in instants.now positions.now ox oy oz f0)
+        (inputs_in instants.now positions.now ox oy oz f0 tolerance)
         samples.now frequencies.now measured.0) report.old }
     ensures count_after { count.new ≡ area_of (λ (x : Report). x.count) (fit_satellite
-        (inputs_in instants.now positions.now ox oy oz f0)
+        (inputs_in instants.now positions.now ox oy oz f0 tolerance)
         samples.now frequencies.now measured.0) count.old }
     ensures approach_after { approach.new ≡ area_of (λ (x : Report). x.approach.0) (fit_satellite
-        (inputs_in instants.now positions.now ox oy oz f0)
+        (inputs_in instants.now positions.now ox oy oz f0 tolerance)
         samples.now frequencies.now measured.0) approach.old }
     ensures fallback_after { fallback.new ≡ area_of fallback_number (fit_satellite
-        (inputs_in instants.now positions.now ox oy oz f0)
+        (inputs_in instants.now positions.now ox oy oz f0 tolerance)
         samples.now frequencies.now measured.0) fallback.old }
     ensures outside_after { outside.new ≡ area_of (λ (x : Report). x.outside) (fit_satellite
-        (inputs_in instants.now positions.now ox oy oz f0)
+        (inputs_in instants.now positions.now ox oy oz f0 tolerance)
         samples.now frequencies.now measured.0) outside.old }
 {
     let observer = Observer {
@@ -86,13 +87,17 @@ pub extern "C" fn orbit_fit_satellite(
         y: oy,
         z: oz,
     };
+    let settings = Settings {
+        observer,
+        f0,
+        tolerance,
+    };
     let found = orbit::fit_satellite(
         instants,
         positions,
         samples,
         frequencies,
-        observer,
-        f0,
+        settings,
         measured,
     );
     report_into(found, report, count, approach, fallback, outside)
@@ -111,6 +116,7 @@ pub extern "C" fn orbit_pass(
     oy: Metres,
     oz: Metres,
     f0: Hertz,
+    tolerance: Seconds,
     mean_instants: &mut [i64],
     mean_frequencies: &mut [f64],
     report: &mut [f64; 3],
@@ -120,28 +126,28 @@ pub extern "C" fn orbit_pass(
     outside: &mut u64,
 ) -> u8
     ensures value { result ≡ refusal_in (pass
-        (inputs_in instants.now positions.now ox oy oz f0)
+        (inputs_in instants.now positions.now ox oy oz f0 tolerance)
         samples.now frequencies.now mean_instants.old mean_frequencies.old) }
     ensures report_after { report.new ≡ area_of report_numbers (pass
-        (inputs_in instants.now positions.now ox oy oz f0)
+        (inputs_in instants.now positions.now ox oy oz f0 tolerance)
         samples.now frequencies.now mean_instants.old mean_frequencies.old) report.old }
     ensures count_after { count.new ≡ area_of (λ (x : Report). x.count) (pass
-        (inputs_in instants.now positions.now ox oy oz f0)
+        (inputs_in instants.now positions.now ox oy oz f0 tolerance)
         samples.now frequencies.now mean_instants.old mean_frequencies.old) count.old }
     ensures approach_after { approach.new ≡ area_of (λ (x : Report). x.approach.0) (pass
-        (inputs_in instants.now positions.now ox oy oz f0)
+        (inputs_in instants.now positions.now ox oy oz f0 tolerance)
         samples.now frequencies.now mean_instants.old mean_frequencies.old) approach.old }
     ensures fallback_after { fallback.new ≡ area_of fallback_number (pass
-        (inputs_in instants.now positions.now ox oy oz f0)
+        (inputs_in instants.now positions.now ox oy oz f0 tolerance)
         samples.now frequencies.now mean_instants.old mean_frequencies.old) fallback.old }
     ensures outside_after { outside.new ≡ area_of (λ (x : Report). x.outside) (pass
-        (inputs_in instants.now positions.now ox oy oz f0)
+        (inputs_in instants.now positions.now ox oy oz f0 tolerance)
         samples.now frequencies.now mean_instants.old mean_frequencies.old) outside.old }
     ensures mean_instants_after { mean_instants.new ≡ pass_instants
-        (inputs_in instants.now positions.now ox oy oz f0)
+        (inputs_in instants.now positions.now ox oy oz f0 tolerance)
         samples.now frequencies.now mean_instants.old mean_frequencies.old }
     ensures mean_frequencies_after { mean_frequencies.new ≡ pass_frequencies
-        (inputs_in instants.now positions.now ox oy oz f0)
+        (inputs_in instants.now positions.now ox oy oz f0 tolerance)
         samples.now frequencies.now mean_instants.old mean_frequencies.old }
 {
     let observer = Observer {
@@ -149,13 +155,17 @@ pub extern "C" fn orbit_pass(
         y: oy,
         z: oz,
     };
+    let settings = Settings {
+        observer,
+        f0,
+        tolerance,
+    };
     let found = orbit::pass(
         instants,
         positions,
         samples,
         frequencies,
-        observer,
-        f0,
+        settings,
         mean_instants,
         mean_frequencies,
     );

@@ -53,13 +53,15 @@ pub extern "C" fn orbit_get_chebyshev_model(
     instants: &[i64],
     positions: &[f64],
     instant: Nanoseconds,
+    tolerance: Seconds,
     model: &mut [f64; 32],
 ) -> u8
-    ensures { (result ≡ refusal_in (get_chebyshev_model instants.now positions.now instant.0))
-        × (model.new ≡ area_of model_numbers (get_chebyshev_model instants.now positions.now instant.0) model.old) }
+    ensures { (result ≡ refusal_in (get_chebyshev_model instants.now positions.now instant.0 tolerance))
+        × (model.new ≡ area_of model_numbers
+        (get_chebyshev_model instants.now positions.now instant.0 tolerance) model.old) }
 {
     put(
-        orbit::get_chebyshev_model(instants, positions, instant),
+        orbit::get_chebyshev_model(instants, positions, instant, tolerance),
         model_numbers,
         model,
     )
@@ -101,16 +103,17 @@ pub extern "C" fn orbit_propagate_ecef(
     instants: &[i64],
     positions: &[f64],
     instant: Nanoseconds,
+    tolerance: Seconds,
     out: &mut [f64; 6],
     place: &mut u8,
 ) -> u8
-    ensures { (result ≡ refusal_in (propagate_ecef instants.now positions.now instant.0))
+    ensures { (result ≡ refusal_in (propagate_ecef instants.now positions.now instant.0 tolerance))
         × (out.new ≡ area_of (λ (x : Located Motion). motion_numbers x.answer)
-        (propagate_ecef instants.now positions.now instant.0) out.old)
+        (propagate_ecef instants.now positions.now instant.0 tolerance) out.old)
         × (place.new ≡ area_of (λ (x : Located Motion). place_number x.place)
-        (propagate_ecef instants.now positions.now instant.0) place.old) }
+        (propagate_ecef instants.now positions.now instant.0 tolerance) place.old) }
 {
-    let found = orbit::propagate_ecef(instants, positions, instant);
+    let found = orbit::propagate_ecef(instants, positions, instant, tolerance);
     put(found.map(|x| x.answer), motion_numbers, out);
     put(found, |x| place_number(x.place), place)
 }
@@ -125,21 +128,22 @@ pub extern "C" fn orbit_find_pca_time(
     oy: Metres,
     oz: Metres,
     instant: Nanoseconds,
+    tolerance: Seconds,
     found: &mut i64,
     place: &mut u8,
 ) -> u8
-    ensures { (result ≡ refusal_in (find_pca_time instants.now positions.now (observer_of ox oy oz) instant.0))
+    ensures { (result ≡ refusal_in (find_pca_time instants.now positions.now (observer_of ox oy oz) instant.0 tolerance))
         × (found.new ≡ area_of (λ (x : Located ℤ). x.answer)
-        (find_pca_time instants.now positions.now (observer_of ox oy oz) instant.0) found.old)
+        (find_pca_time instants.now positions.now (observer_of ox oy oz) instant.0 tolerance) found.old)
         × (place.new ≡ area_of (λ (x : Located ℤ). place_number x.place)
-        (find_pca_time instants.now positions.now (observer_of ox oy oz) instant.0) place.old) }
+        (find_pca_time instants.now positions.now (observer_of ox oy oz) instant.0 tolerance) place.old) }
 {
     let observer = Observer {
         x: ox,
         y: oy,
         z: oz,
     };
-    let closest = orbit::find_pca_time(instants, positions, observer, instant);
+    let closest = orbit::find_pca_time(instants, positions, observer, instant, tolerance);
     put(closest, |x| x.answer.0, found);
     put(closest, |x| place_number(x.place), place)
 }

@@ -12,7 +12,7 @@ use orbit::ChebyshevOrbit;
 use std::alloc::{AllocError, Global};
 use std::io::Write;
 use std::{array, io};
-use units::{Hertz, LeapSeconds, Nanoseconds, Seconds};
+use units::{Hertz, LeapSeconds, Nanoseconds, Seconds, Settings};
 
 // How many elements an area may have: one for each sample of the longest recording, and a few behind them. The stored files have fewer positions.
 const AREA: usize = MOST_SAMPLES + 8;
@@ -124,18 +124,20 @@ impl<W: Write> Case<'_, W> {
         chebyshev::invert_matrix_10(rows).put(self.out)
     }
 
-    // `get_chebyshev_model INSTANTS POSITIONS INSTANT`: the refusal alone, or 0 and the model.
+    // `get_chebyshev_model INSTANTS POSITIONS INSTANT TOLERANCE`: the refusal alone, or 0 and the model.
     fn get_chebyshev_model(&mut self) -> io::Result<()> {
         let (instants, positions) = self.series()?;
         let instant = Nanoseconds(self.words.whole());
-        orbit::get_chebyshev_model(&instants, &positions, instant).put(self.out)
+        let tolerance = Seconds(self.words.double());
+        orbit::get_chebyshev_model(&instants, &positions, instant, tolerance).put(self.out)
     }
 
-    // `propagate_ecef INSTANTS POSITIONS INSTANT`: the refusal alone, or 0 with the position, the velocity and the place.
+    // `propagate_ecef INSTANTS POSITIONS INSTANT TOLERANCE`: the refusal alone, or 0 with the position, the velocity and the place.
     fn propagate_ecef(&mut self) -> io::Result<()> {
         let (instants, positions) = self.series()?;
         let instant = Nanoseconds(self.words.whole());
-        orbit::propagate_ecef(&instants, &positions, instant).put(self.out)
+        let tolerance = Seconds(self.words.double());
+        orbit::propagate_ecef(&instants, &positions, instant, tolerance).put(self.out)
     }
 
     // `evaluate T0 T9 CX CY CZ INSTANT`: the refusal alone, or 0 with the position and the velocity.
@@ -149,12 +151,13 @@ impl<W: Write> Case<'_, W> {
         orbit::evaluate(ChebyshevOrbit { t0, t9, cx, cy, cz }, instant).put(self.out)
     }
 
-    // `find_pca_time INSTANTS POSITIONS OX OY OZ INSTANT`: the refusal alone, or 0, the instant and its place.
+    // `find_pca_time INSTANTS POSITIONS OX OY OZ INSTANT TOLERANCE`: the refusal alone, or 0, the instant and its place.
     fn find_pca_time(&mut self) -> io::Result<()> {
         let (instants, positions) = self.series()?;
         let observer = self.words.observer();
         let instant = Nanoseconds(self.words.whole());
-        orbit::find_pca_time(&instants, &positions, observer, instant).put(self.out)
+        let tolerance = Seconds(self.words.double());
+        orbit::find_pca_time(&instants, &positions, observer, instant, tolerance).put(self.out)
     }
 
     // `estimate_measured_pca_time INSTANTS FREQUENCIES`: the refusal alone, or 0 and the instant.
@@ -176,26 +179,30 @@ impl<W: Write> Case<'_, W> {
         samples::estimate_slant_range(f0, slope).0.put(self.out)
     }
 
-    // `fit_satellite INSTANTS POSITIONS SAMPLES FREQUENCIES OX OY OZ F0 INSTANT`: the refusal alone, or 0 and the report.
+    // `fit_satellite INSTANTS POSITIONS SAMPLES FREQUENCIES OX OY OZ F0 INSTANT TOLERANCE`: the refusal alone, or 0 and the report.
     fn fit_satellite(&mut self) -> io::Result<()> {
         let (instants, positions) = self.series()?;
         let (recorded, frequencies) = self.series()?;
         let observer = self.words.observer();
         let f0 = Hertz(self.words.double());
         let measured = Nanoseconds(self.words.whole());
+        let tolerance = Seconds(self.words.double());
         orbit::fit_satellite(
             &instants,
             &positions,
             &recorded,
             &frequencies,
-            observer,
-            f0,
+            Settings {
+                observer,
+                f0,
+                tolerance,
+            },
             measured,
         )
         .put(self.out)
     }
 
-    // `pass INSTANTS POSITIONS SAMPLES FREQUENCIES OX OY OZ F0 LENGTH LENGTH`: the refusal, or 0 and the report; the areas follow.
+    // `pass INSTANTS POSITIONS SAMPLES FREQUENCIES OX OY OZ F0 TOLERANCE LENGTH LENGTH`: the refusal, or 0 and the report; the areas follow.
     fn pass(&mut self) -> io::Result<bool> {
         let Some(mut areas) = self.areas()? else {
             return Ok(false);
@@ -204,13 +211,17 @@ impl<W: Write> Case<'_, W> {
         let (recorded, frequencies) = self.series()?;
         let observer = self.words.observer();
         let f0 = Hertz(self.words.double());
+        let tolerance = Seconds(self.words.double());
         orbit::pass(
             &instants,
             &positions,
             &recorded,
             &frequencies,
-            observer,
-            f0,
+            Settings {
+                observer,
+                f0,
+                tolerance,
+            },
             &mut areas.instants,
             &mut areas.numbers,
         )

@@ -11,7 +11,7 @@ use lib.Ieee.{Float}
 use borrow.Author.Tests.{ltb-false}
 use Rattle.common.specs.declared.refusal.Refusal.{Refusal}
 use Rattle.common.specs.declared.refusal.Refusal.TheVariants.{Coordinates, Samples, Areas, Instants, Order, Places, Frequencies, Singular}
-use Rattle.common.specs.declared.refusal.Refusal.TheVariants.{NoFall, NoShift, Undescribed, TimeSystem as OtherSystem, Records, Entries, NotFinite}
+use Rattle.common.specs.declared.refusal.Refusal.TheVariants.{NoFall, NoShift, Undescribed, TimeSystem as OtherSystem, Records, Entries, NotFinite, Tolerance}
 use Rattle.common.specs.Refusals.{number_of}
 use Rattle.sp3.specs.declared.line.Line.{Line}
 use Rattle.units.specs.declared.LeapSeconds.{LeapSeconds}
@@ -43,6 +43,7 @@ some_number OtherSystem e = omega arith
 some_number Records e = omega arith
 some_number Entries e = omega arith
 some_number NotFinite e = omega arith
+some_number Tolerance e = omega arith
 
 -- ---- the refusal by what the look found
 module _ (sys : TimeSystem) (S : List Line) (is : List ℤ) (ps : List Float) where

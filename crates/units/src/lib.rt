@@ -1,5 +1,6 @@
 // The units of the ship clock, each a type of its own with one field, so that kilometres cannot stand where metres are meant;
-// the records of three, which are three types and not one with a parameter, so that an observer cannot stand where a position is meant; spans of
+// the records of three, which are three types and not one with a parameter, so that an observer cannot stand where a position is meant; the single
+// numbers of a fit; spans of
 // time and the speed of light by name. An ECEF coordinate is earth-centred and earth-fixed. The units have C's
 // layout, since the exports take them.
 #![tactic(auto)]
@@ -51,6 +52,15 @@ pub struct Observer {
     pub x: Metres,
     pub y: Metres,
     pub z: Metres,
+}
+
+// What a fit and a pass are given in single numbers: where the receiver stands, the centre frequency, and how far a gap of an even window may be off
+// the mean gap.
+#[derive(Clone, Copy)]
+pub struct Settings {
+    pub observer: Observer,
+    pub f0: Hertz,
+    pub tolerance: Seconds,
 }
 
 // Nanoseconds in a second.

@@ -7,8 +7,7 @@ use native.Mathlib.Omega.{arith}
 use lib.IntN.{ℤ}
 use lib.ListN.{length, take, length-map}
 use lib.Ieee.{Float, of_bits}
-use Rattle.units.specs.declared.Hertz.{Hertz}
-use Rattle.units.specs.declared.Observer.{Observer}
+use Rattle.units.specs.declared.Settings.{Settings}
 use Rattle.common.specs.Outcome.{Outcome, answered, outcome, area, written}
 use Rattle.checks.proofs.Checked.{pass-table, pass-samples, pass_areas, means-pass}
 use Rattle.checks.specs.Checked.{Table, Samples}
@@ -16,11 +15,8 @@ use Rattle.common.proofs.Outcomes.{unless_none}
 use Rattle.samples.specs.Means.{Sample, recording, means, instants, frequencies, downsample_refusal}
 use Rattle.samples.proofs.Seconds.{few-means}
 use Rattle.samples.proofs.Recordings.{record_length}
-use Rattle.orbit.specs.Window.{even_tolerance}
-use Rattle.orbit.specs.declared.tabulated.TabulatedOrbit.{TabulatedOrbit}
 use Rattle.orbit.specs.Fit.{fit_of}
-use Rattle.orbit.specs.Residuals.{Inputs, settings_of, inputs_of}
-use Rattle.orbit.specs.Fitting.{measured_in}
+use Rattle.orbit.specs.Residuals.{Inputs, inputs_of}
 use Rattle.orbit.specs.Passes.{measured_by, measured_of, pass_outcome, pass_refusal}
 use Rattle.orbit.proofs.Trials.{length_front}
 use Rattle.orbit.proofs.Middles.{by_parts, means-sampled, front, same_count, not_refused}
@@ -32,17 +28,16 @@ record Given : Type 0 where
   positions : List Float
   ts : List ℤ
   fs : List Float
-  observer : Observer
-  f0 : Hertz
+  settings : Settings
   is : List ℤ
   hs : List Float
 
-abbrev given_by : List ℤ → List Float → List ℤ → List Float → Observer → Hertz → List ℤ → List Float → Given
-given_by times positions ts fs observer f0 is hs = record { times = times; positions = positions; ts = ts; fs = fs; observer = observer; f0 = f0; is = is; hs = hs }
+abbrev given_by : List ℤ → List Float → List ℤ → List Float → Settings → List ℤ → List Float → Given
+given_by times positions ts fs settings is hs = record { times = times; positions = positions; ts = ts; fs = fs; settings = settings; is = is; hs = hs }
 
 module _ (g : Given) where
   abbrev inputs : Inputs
-  inputs = inputs_of g.times g.positions (settings_of g.observer g.f0 even_tolerance)
+  inputs = inputs_of g.times g.positions g.settings
 
   abbrev refusal : ℕ
   refusal = pass_refusal inputs g.ts g.fs g.is g.hs
@@ -53,13 +48,13 @@ module _ (g : Given) where
   -- where no check failed
   module _ (none : refusal ≡ 0) where
     tabled : Table g.times g.positions
-    tabled = pass-table g.times g.positions g.ts g.fs g.observer g.f0 g.is g.hs none
+    tabled = pass-table g.times g.positions g.ts g.fs g.settings g.is g.hs none
 
     passed : Samples g.ts g.fs
-    passed = pass-samples g.times g.positions g.ts g.fs g.observer g.f0 g.is g.hs none
+    passed = pass-samples g.times g.positions g.ts g.fs g.settings g.is g.hs none
 
     room : (length g.ts ≤ length g.is) × (length g.ts ≤ length g.hs)
-    room = pass_areas g.times g.positions g.ts g.fs g.observer g.f0 g.is g.hs none
+    room = pass_areas g.times g.positions g.ts g.fs g.settings g.is g.hs none
 
     no_refusal : downsample_refusal g.ts g.fs g.is g.hs ≡ 0
     no_refusal = means-pass g.ts g.fs passed g.is g.hs room.0 room.1
@@ -114,47 +109,47 @@ module _ (g : Given) where
 pub returns-in_err-count : goal.returns-in_err-count
 returns-in_err-count c =
     let a = c.args in
-    let g = given_by a.instants.now a.positions.now a.samples.now a.frequencies.now a.observer a.f0 a.mean_instants.now a.mean_frequencies.now in
+    let g = given_by a.instants.now a.positions.now a.samples.now a.frequencies.now a.settings a.mean_instants.now a.mean_frequencies.now in
     absurd (not_refused _ _ (count_is g (sym c.in_ok-refuse_pass.ensures) _ c.in_err-count.ensures.result_value))
 
-pub invariant_of-even : goal.invariant_of-even
-invariant_of-even c =
+pub invariant_of-table : goal.invariant_of-table
+invariant_of-table c =
     let a = c.args in
-    let g = given_by a.instants.now a.positions.now a.samples.now a.frequencies.now a.observer a.f0 a.mean_instants.now a.mean_frequencies.now in
+    let g = given_by a.instants.now a.positions.now a.samples.now a.frequencies.now a.settings a.mean_instants.now a.mean_frequencies.now in
     record { checked = tabled g (sym c.in_ok-refuse_pass.ensures) }
 
 pub slice_bounds-recording-end : goal.slice_bounds-recording-end
 slice_bounds-recording-end c =
     let a = c.args in
-    let g = given_by a.instants.now a.positions.now a.samples.now a.frequencies.now a.observer a.f0 a.mean_instants.now a.mean_frequencies.now in
+    let g = given_by a.instants.now a.positions.now a.samples.now a.frequencies.now a.settings a.mean_instants.now a.mean_frequencies.now in
     let d = c.downsample_data in
     in_instants g (sym c.in_ok-refuse_pass.ensures) c.in_ok-count.count c.in_ok-count.ensures.result_value d.new.mean_instants d.auto.mean_instants
 
 pub slice_bounds-recording-end-2 : goal.slice_bounds-recording-end-2
 slice_bounds-recording-end-2 c =
     let a = c.args in
-    let g = given_by a.instants.now a.positions.now a.samples.now a.frequencies.now a.observer a.f0 a.mean_instants.now a.mean_frequencies.now in
+    let g = given_by a.instants.now a.positions.now a.samples.now a.frequencies.now a.settings a.mean_instants.now a.mean_frequencies.now in
     let d = c.downsample_data in
     sym (length_front d.new.mean_instants c.in_ok-count.count (in_instants g (sym c.in_ok-refuse_pass.ensures) c.in_ok-count.count c.in_ok-count.ensures.result_value d.new.mean_instants d.auto.mean_instants))
 
 pub slice_bounds-recording-end-3 : goal.slice_bounds-recording-end-3
 slice_bounds-recording-end-3 c =
     let a = c.args in
-    let g = given_by a.instants.now a.positions.now a.samples.now a.frequencies.now a.observer a.f0 a.mean_instants.now a.mean_frequencies.now in
+    let g = given_by a.instants.now a.positions.now a.samples.now a.frequencies.now a.settings a.mean_instants.now a.mean_frequencies.now in
     let d = c.downsample_data in
     in_frequencies g (sym c.in_ok-refuse_pass.ensures) c.in_ok-count.count c.in_ok-count.ensures.result_value d.new.mean_frequencies d.auto.mean_frequencies
 
 pub slice_bounds-recording-end-4 : goal.slice_bounds-recording-end-4
 slice_bounds-recording-end-4 c =
     let a = c.args in
-    let g = given_by a.instants.now a.positions.now a.samples.now a.frequencies.now a.observer a.f0 a.mean_instants.now a.mean_frequencies.now in
+    let g = given_by a.instants.now a.positions.now a.samples.now a.frequencies.now a.settings a.mean_instants.now a.mean_frequencies.now in
     let d = c.downsample_data in
     sym (length_front d.new.mean_frequencies c.in_ok-count.count (in_frequencies g (sym c.in_ok-refuse_pass.ensures) c.in_ok-count.count c.in_ok-count.ensures.result_value d.new.mean_frequencies d.auto.mean_frequencies))
 
 pub invariant_of-recording : goal.invariant_of-recording
 invariant_of-recording c =
     let a = c.args in
-    let g = given_by a.instants.now a.positions.now a.samples.now a.frequencies.now a.observer a.f0 a.mean_instants.now a.mean_frequencies.now in
+    let g = given_by a.instants.now a.positions.now a.samples.now a.frequencies.now a.settings a.mean_instants.now a.mean_frequencies.now in
     let d = c.downsample_data in
     record { checked = front_sampled g (sym c.in_ok-refuse_pass.ensures) c.in_ok-count.count c.in_ok-count.ensures.result_value d.new.mean_instants d.new.mean_frequencies d.ensures.mean_instants_after d.ensures.mean_frequencies_after }
 
@@ -162,14 +157,13 @@ pub returns : goal.returns
 unfolding of_bits
 returns c =
     let a = c.args in
-    let g = given_by a.instants.now a.positions.now a.samples.now a.frequencies.now a.observer a.f0 a.mean_instants.now a.mean_frequencies.now in
+    let g = given_by a.instants.now a.positions.now a.samples.now a.frequencies.now a.settings a.mean_instants.now a.mean_frequencies.now in
     let d = c.downsample_data in
     let none = sym c.in_ok-refuse_pass.ensures in
     let n = c.in_ok-count.count in
     let S = recording (take n d.new.mean_instants) (take n d.new.mean_frequencies) in
     record {
       result_value = c.fit_about.ensures
-          ∙ ap (λ (o : TabulatedOrbit). fit_of (inputs_of o.table.instants.now o.table.positions.now (settings_of a.observer a.f0 o.tolerance)) S (measured_in c.approach_or_middle.result)) c.even-orbit.ensures
           ∙ ap (fit_of (inputs g) S) c.approach_or_middle.ensures
           ∙ front_fitted g none n c.in_ok-count.ensures.result_value d.new.mean_instants d.new.mean_frequencies d.ensures.mean_instants_after d.ensures.mean_frequencies_after
           ∙ unless_none 0 (refusal g) (pass_outcome (inputs g) (recording g.ts g.fs)) c.in_ok-refuse_pass.ensures refl;

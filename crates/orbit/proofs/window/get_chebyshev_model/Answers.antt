@@ -3,5 +3,5 @@ use Rattle.checks.proofs.Checked.{propagation_table}
 use borrow.Author.Rules.{rules}
 use Rattle.orbit.proofs.window.get_chebyshev_model.Goals as goal
 
-pub invariant_of-even : goal.invariant_of-even
-invariant_of-even c = let a = c.args in record { checked = propagation_table a.instants.now a.positions.now a.instant.0 (search rules) }
+pub invariant_of-table : goal.invariant_of-table
+invariant_of-table c = let a = c.args in record { checked = propagation_table a.instants.now a.positions.now a.instant.0 a.tolerance (search rules) }
