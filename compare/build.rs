@@ -1,4 +1,4 @@
-//! Slices the named items out of the Rust's orbit.rs, and names our static library to the linker.
+//! Slices the named items out of the Rust's orbit.rs, writes them once more with another tolerance, and names our static library to the linker.
 //!
 //! ORBIT_SOURCE is the folder that holds src/orbit.rs, ORBIT_LIBRARY the path of our library.
 
@@ -21,6 +21,12 @@ const ITEMS: [&str; 12] = [
     "pub fn fit_satellite(",
 ];
 
+/// Where an even window is told from an uneven one: the only line of the text that is another in the second.
+const TOLERANCE: [&str; 2] = [
+    "            if (tk1 - tk - dt_expected).abs() > 1.0 {\n",
+    "            if (tk1 - tk - dt_expected).abs() > tolerance_in_use() {\n",
+];
+
 /// The words that are struck out of the attributes above an item.
 const STRUCK_OUT: [&str; 2] = [", serde::Serialize", ", serde::Deserialize"];
 
@@ -31,10 +37,16 @@ fn main() {
         .unwrap_or_else(|error| panic!("cannot read {}: {error}", source.display()));
     let whole: String = ITEMS.iter().map(|header| slice(&text, header)).collect();
     let sliced = whole + &orbit_model(&text) + &steepest_slope(&text) + &parse_sp3_file(&text);
-    let output = path_in("OUT_DIR").join("orbit_sliced.rs");
-    fs::write(&output, sliced)
-        .unwrap_or_else(|error| panic!("cannot write {}: {error}", output.display()));
+    write("orbit_sliced.rs", &sliced);
+    write("orbit_by_tolerance.rs", &by_tolerance(&sliced));
     link(&path_in("ORBIT_LIBRARY"));
+}
+
+/// Writes a file for the build.
+fn write(name: &str, text: &str) {
+    let output = path_in("OUT_DIR").join(name);
+    fs::write(&output, text)
+        .unwrap_or_else(|error| panic!("cannot write {}: {error}", output.display()));
 }
 
 /// The path that an environment variable holds.
@@ -89,15 +101,27 @@ fn steepest_slope(text: &str) -> String {
 fn parse_sp3_file(text: &str) -> String {
     let reader = slice(text, "pub fn parse_sp3_file(");
     let changes = [
-        ("path: &str", "bytes: &[u8]"),
-        ("    use std::fs::File;\n", ""),
-        ("File::open(path)?", "bytes"),
+        ["path: &str", "bytes: &[u8]"],
+        ["    use std::fs::File;\n", ""],
+        ["File::open(path)?", "bytes"],
     ];
-    changes.iter().fold(reader, |reader, (words, instead)| {
-        let count = reader.matches(words).count();
-        assert!(count == 1, "`{words}` stands {count} times in the reader");
-        reader.replace(words, instead)
+    changes.iter().fold(reader, |reader, [words, instead]| {
+        replaced(&reader, words, instead)
     })
+}
+
+/// The sliced text in which the model's tolerance is the one in use; nothing else is another.
+fn by_tolerance(sliced: &str) -> String {
+    let [words, instead] = TOLERANCE;
+    let model = part(sliced, "    pub fn get_chebyshev_model(");
+    replaced(sliced, model, &replaced(model, words, instead))
+}
+
+/// The text with these words, which must stand in it exactly once, replaced.
+fn replaced(text: &str, words: &str, instead: &str) -> String {
+    let count = text.matches(words).count();
+    assert!(count == 1, "`{words}` stands {count} times in the text");
+    text.replace(words, instead)
 }
 
 /// The text from the one line that starts with the header to the brace that closes the first one after it.

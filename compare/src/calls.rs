@@ -2,6 +2,7 @@
 
 use crate::inputs::recordings::Recording;
 use crate::inputs::tables::Table;
+use crate::reference::TOLERANCE;
 use crate::words::{hex, hex_length, hex_whole};
 
 /// The entries that take tables, samples or instants, and the slant range.
@@ -29,6 +30,7 @@ pub enum Part {
     Centre,
     Slope,
     Instant,
+    Tolerance,
     Areas,
 }
 
@@ -53,14 +55,14 @@ impl Entry {
     pub fn parts(self) -> &'static [Part] {
         use Part::*;
         match self {
-            Entry::GetChebyshevModel | Entry::PropagateEcef => &[Table, Instant],
+            Entry::GetChebyshevModel | Entry::PropagateEcef => &[Table, Instant, Tolerance],
             Entry::Evaluate => &[Model, Instant],
-            Entry::FindPcaTime => &[Table, Observer, Instant],
+            Entry::FindPcaTime => &[Table, Observer, Instant, Tolerance],
             Entry::DownsampleData => &[Samples, Areas],
             Entry::EstimateMeasuredPcaTime | Entry::SteepestSlope => &[Samples],
             Entry::EstimateSlantRange => &[Centre, Slope],
-            Entry::FitSatellite => &[Table, Samples, Observer, Centre, Instant],
-            Entry::Pass => &[Table, Samples, Observer, Centre, Areas],
+            Entry::FitSatellite => &[Table, Samples, Observer, Centre, Instant, Tolerance],
+            Entry::Pass => &[Table, Samples, Observer, Centre, Tolerance, Areas],
         }
     }
 
@@ -89,6 +91,8 @@ pub struct Call {
     pub slope: f64,
     /// The instant asked for, or the measured approach.
     pub instant: i64,
+    /// By how many seconds a gap of an even window may be off.
+    pub tolerance: f64,
     /// The lengths of the areas for the means' instants and frequencies.
     pub areas: [usize; 2],
 }
@@ -103,12 +107,21 @@ impl Default for Call {
             centre: 0.0,
             slope: 0.0,
             instant: 0,
+            tolerance: TOLERANCE,
             areas: [0; 2],
         }
     }
 }
 
 impl Call {
+    /// The same call at another tolerance.
+    pub fn at(&self, tolerance: f64) -> Call {
+        Call {
+            tolerance,
+            ..self.clone()
+        }
+    }
+
     /// The entry's arguments, a word of bits each; a slice has its length before it.
     pub fn arguments(&self, entry: Entry) -> Vec<String> {
         let parts = entry.parts().iter();
@@ -125,6 +138,7 @@ impl Call {
             Part::Centre => vec![hex(self.centre)],
             Part::Slope => vec![hex(self.slope)],
             Part::Instant => vec![hex_whole(self.instant)],
+            Part::Tolerance => vec![hex(self.tolerance)],
             Part::Areas => self
                 .areas
                 .iter()

@@ -1,7 +1,11 @@
-//! Checks 1 to 7 of the paper, with the limit of samples of request 2.2, written plainly, and the first of them that an entry's inputs fail.
+//! Checks 1 to 7 of the paper, with the limit of samples of request 2.2, and the tolerance's of request 2.7, written plainly, and the first of them that an
+//! entry's inputs fail.
 
 use crate::calls::{Call, Entry, Part};
 use crate::inputs::integers::INSTANT_LIMIT;
+
+/// The checks of an entry's inputs, in their order; 16 stands before 8.
+pub const CHECKS: [u8; 8] = [1, 2, 3, 4, 5, 6, 7, 16];
 
 /// The least and the greatest number of coordinates.
 pub const COORDINATES: [usize; 2] = [10, 4096];
@@ -17,7 +21,8 @@ pub const NEAREST: f64 = 1e6;
 
 /// The number of the first check that fails.
 pub fn first_failing(entry: Entry, call: &Call) -> Option<u8> {
-    (1..=7).find(|&number| fails(number, entry, call))
+    let mut checks = CHECKS.into_iter();
+    checks.find(|&number| fails(number, entry, call))
 }
 
 /// Whether a check fails for a part that the entry takes.
@@ -41,6 +46,7 @@ fn part_fails(number: u8, part: Part, call: &Call) -> bool {
         (6, Part::Observer) => is_misplaced(&call.observer),
         (7, Part::Samples) => recording.frequencies.iter().any(|f| !f.is_finite()),
         (7, Part::Centre) => !call.centre.is_finite() || call.centre <= 0.0,
+        (16, Part::Tolerance) => !call.tolerance.is_finite() || call.tolerance < 0.0,
         _ => false,
     }
 }

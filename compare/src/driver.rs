@@ -96,7 +96,8 @@ pub fn compare_lengths(total: &mut Total, entry: Entry, ours: Ours, from: usize)
     tally.finish(total);
 }
 
-/// Compares the refusals of an entry: every fault alone, every two of them at once, and what just passes.
+/// Compares the refusals of an entry: every fault alone, every two of them at once, every fault of a call that is refused after the checks, and what just
+/// passes.
 pub fn compare_refusals(total: &mut Total, entry: Entry, ours: Ours) {
     let mut tally = Tally::new(format!("{} refusals", entry.name()));
     let small = faults::sound(12, 7);
@@ -115,6 +116,13 @@ pub fn compare_refusals(total: &mut Total, entry: Entry, ours: Ours) {
         compare_change(&mut tally, entry, ours, fault, &large);
         for later in &faults[k + 1..] {
             compare_two(&mut tally, entry, ours, [fault, later], &small);
+        }
+    }
+    for (number, call) in faults::refused_later(entry) {
+        let expected = compare(&mut tally, entry, ours, &call);
+        assert!(expected.refusal == Some(number), "it is not refused later");
+        for fault in &faults {
+            compare_change(&mut tally, entry, ours, fault, &call);
         }
     }
     tally.finish(total);

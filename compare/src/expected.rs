@@ -5,7 +5,7 @@ use crate::calls::{Call, Entry, Part};
 use crate::checks;
 use crate::inputs::tables::Table;
 use crate::place;
-use crate::reference::{self, Measured, Report, Samples};
+use crate::reference::{self, Measured, Orbit, Report, Samples};
 use crate::words::Word;
 
 /// The refusal where the Rust finds no inverse.
@@ -52,14 +52,16 @@ fn rust_answer(entry: Entry, call: &Call) -> Answer {
     }
 }
 
+/// What is asked of the call's table at its tolerance.
+fn asked<A>(call: &Call, ask: impl FnOnce(&dyn Orbit) -> A) -> A {
+    reference::at(call.tolerance, &call.table, ask)
+}
+
 /// The 32 numbers of the model.
 fn model(call: &Call) -> Answer {
-    let orbit = reference::orbit(&call.table);
-    let model = reference::model(&orbit, reference::instant(call.instant));
-    answer_or(
-        NO_INVERSE,
-        model.map(|model| doubles(&reference::numbers(&model))),
-    )
+    let instant = reference::instant(call.instant);
+    let model = asked(call, |orbit| orbit.model(instant));
+    answer_or(NO_INVERSE, model.map(|numbers| doubles(&numbers)))
 }
 
 /// Position and velocity by a model.
@@ -72,8 +74,8 @@ fn evaluation(call: &Call) -> Answer {
 
 /// Position and velocity by a table, and where the instant lies.
 fn propagation(call: &Call) -> Answer {
-    let orbit = reference::orbit(&call.table);
-    let motion = reference::propagate(&orbit, reference::instant(call.instant));
+    let instant = reference::instant(call.instant);
+    let motion = asked(call, |orbit| orbit.propagate(instant));
     let words = motion.map(|motion| {
         let mut words = motion_words(motion);
         words.push(place_word(&call.table, call.instant));
@@ -84,8 +86,8 @@ fn propagation(call: &Call) -> Answer {
 
 /// The instant of the closest approach, and where it lies.
 fn closest(call: &Call) -> Answer {
-    let orbit = reference::orbit(&call.table);
-    let found = reference::closest(&orbit, call.observer, reference::instant(call.instant));
+    let instant = reference::instant(call.instant);
+    let found = asked(call, |orbit| orbit.closest(call.observer, instant));
     let found = reference::nanoseconds(found.expect("the Rust always finds one"));
     Answer::answered(vec![Word::Whole(found), place_word(&call.table, found)])
 }
@@ -116,13 +118,14 @@ fn slope(call: &Call) -> Answer {
 
 /// The report of a fit; its count is that of the samples, its instant the given one.
 fn fit(call: &Call) -> Answer {
-    let orbit = reference::orbit(&call.table);
     let samples = reference::samples(&call.recording);
     let given = Measured {
         instant: reference::instant(call.instant),
         fallback: false,
     };
-    let report = reference::fit(&orbit, &samples, call.observer, call.centre, given.instant);
+    let report = asked(call, |orbit| {
+        orbit.fit(&samples, call.observer, call.centre, given.instant)
+    });
     answer_or(
         NO_CANDIDATE,
         report.map(|report| report_words(report, &call.table, &samples, given)),
@@ -131,9 +134,10 @@ fn fit(call: &Call) -> Answer {
 
 /// The report of a pass, and the means at the front of the areas, under the refusal of the fit too.
 fn pass(call: &Call) -> Answer {
-    let orbit = reference::orbit(&call.table);
     let samples = reference::samples(&call.recording);
-    let (means, report) = reference::pass(&orbit, &samples, call.observer, call.centre);
+    let (means, report) = asked(call, |orbit| {
+        reference::pass(orbit, &samples, call.observer, call.centre)
+    });
     let words =
         report.map(|report| report_words(report, &call.table, &means, reference::measured(&means)));
     answer_or(NO_CANDIDATE, words).beside(areas(call, &means))

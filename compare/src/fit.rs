@@ -1,6 +1,7 @@
 //! The fit and the pass.
 
 mod outside;
+mod tolerances;
 
 use crate::driver::{
     Ours, compare as compare_call, compare_lengths, compare_paper, compare_refusals,
@@ -48,6 +49,7 @@ pub fn compare(total: &mut Total) {
     }
     compare_approaches(total);
     outside::compare(total);
+    tolerances::compare(total);
 }
 
 /// Every kind of call, those whose clock offset is known, and long ones.

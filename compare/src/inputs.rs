@@ -16,3 +16,4 @@ pub mod random;
 pub mod recordings;
 pub mod sp3;
 pub mod tables;
+pub mod tolerances;

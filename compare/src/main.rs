@@ -33,6 +33,8 @@ mod ours;
 mod sp3;
 mod tally;
 mod timing;
+#[cfg(any(feature = "orbit", feature = "fit"))]
+mod tolerance;
 
 use std::env;
 use std::process::ExitCode;

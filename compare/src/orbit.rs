@@ -1,6 +1,7 @@
 //! The tabulated orbit: model, evaluation, propagation and closest approach.
 
 mod ends;
+mod tolerances;
 
 use crate::driver::{Ours, PLACES, compare as compare_call, compare_paper, compare_refusals};
 use crate::ours::orbit as ours;
@@ -16,7 +17,7 @@ use compare::inputs::orbits::Orbit;
 use compare::inputs::random::Random;
 use compare::inputs::tables::{self, PRESENT, SECOND, SPACINGS, Spacing, Table};
 use compare::inputs::{doubles, polynomials};
-use compare::reference::{self, OrbitModel};
+use compare::reference::{self, OrbitModel, TOLERANCE};
 use compare::words::Word;
 use std::hint::black_box;
 
@@ -42,6 +43,7 @@ pub fn compare(total: &mut Total) {
     compare_models(total);
     compare_closest(total);
     ends::compare(total);
+    tolerances::compare(total);
     for (entry, ours) in [
         (Entry::GetChebyshevModel, ours::model as Ours),
         (Entry::Evaluate, ours::evaluation),
@@ -115,14 +117,9 @@ fn compare_rows([models, propagations]: &mut [Tally; 2], random: &mut Random, ta
     }
 }
 
-/// The end times of the window about a row: "Start is 0 if idx < 4, length − 10 if idx + 5 ≥ length, else idx − 4".
+/// The end times of the window about a row.
 fn paper_ends(table: &Table, idx: usize) -> Vec<Word> {
-    let length = table.instants.len();
-    let start = match idx {
-        0..4 => 0,
-        _ if idx + 5 >= length => length - 10,
-        _ => idx - 4,
-    };
+    let start = tables::window_start(idx, table.instants.len());
     let seconds = [start, start + 9].map(|k| table.instants[k] as f64 * 1e-9);
     answers::doubles(&seconds)
 }
@@ -238,7 +235,7 @@ fn time_model() -> Row {
     row(
         "get_chebyshev_model, 10 rows even",
         &instants,
-        |&(n, _)| ours::write_model(&table, n, black_box(&mut model)),
+        |&(n, _)| ours::write_model(&table, n, TOLERANCE, black_box(&mut model)),
         |&(_, instant)| reference::model(&orbit, instant),
     )
 }
@@ -273,7 +270,7 @@ fn time_propagation(rows: usize, uneven: bool) -> Row {
         &instants,
         |&(n, _)| {
             let places = black_box((&mut motion, &mut place));
-            ours::write_propagation(&table, n, places.0, places.1)
+            ours::write_propagation(&table, n, TOLERANCE, places.0, places.1)
         },
         |&(_, instant)| reference::propagate(&orbit, instant),
     )
@@ -287,7 +284,7 @@ fn time_checks(rows: usize) -> Row {
     let (mut motion, mut place) = ([0.0; 6], 0);
     row_of_ours(name, &[PRESENT], |&n| {
         let places = black_box((&mut motion, &mut place));
-        ours::write_propagation(&table, n, places.0, places.1)
+        ours::write_propagation(&table, n, TOLERANCE, places.0, places.1)
     })
 }
 

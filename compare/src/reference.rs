@@ -1,6 +1,7 @@
-//! The Rust side: its unchanged functions, sliced out of its source when this is built.
+//! The Rust side: its unchanged functions, sliced out of its source when this is built; and the same text in which the tolerance of an even window, and
+//! nothing else, is another number.
 //!
-//! Each function below is one call from the driver, as each entry of our library is.
+//! Each function below and in `reference/tables.rs` is one call from the driver, as each entry of our library is.
 
 // The style of the sliced text is its author's.
 #![allow(
@@ -9,12 +10,17 @@
     clippy::collapsible_if
 )]
 
+mod changed;
+
+pub use changed::at as by_the_changed_text;
+
 use crate::inputs::recordings::Recording;
 use crate::inputs::tables::Table;
 use chrono::{DateTime, NaiveDateTime, TimeZone, Utc};
 use std::io;
 
 include!(concat!(env!("OUT_DIR"), "/orbit_sliced.rs"));
+include!("reference/tables.rs");
 
 /// What newer releases of chrono offer and Debian's lacks; where chrono has it, chrono's own is called.
 #[allow(dead_code)]
@@ -83,6 +89,39 @@ pub type Motion = ([f64; 3], [f64; 3]);
 /// Clock offset, frequency offset and RMSE.
 pub type Report = (f64, f64, f64);
 
+/// The tolerance of an even window in the unchanged text, in seconds.
+pub const TOLERANCE: f64 = 1.0;
+
+/// What is asked of a table at a tolerance: at the Rust's own the unchanged text decides, at any other the changed one.
+pub fn at<A>(tolerance: f64, table: &Table, ask: impl FnOnce(&dyn Orbit) -> A) -> A {
+    if tolerance.to_bits() == TOLERANCE.to_bits() {
+        ask(&orbit(table))
+    } else {
+        by_the_changed_text(tolerance, table, ask)
+    }
+}
+
+/// A table as one of the two texts takes it, and what that text answers.
+pub trait Orbit {
+    /// The 32 numbers of the model of the window about an instant, or nothing where it has no inverse.
+    fn model(&self, instant: DateTime<Utc>) -> Option<[f64; 32]>;
+
+    /// Position and velocity, or nothing where the window has no inverse.
+    fn propagate(&self, instant: DateTime<Utc>) -> Option<Motion>;
+
+    /// The instant of the closest approach about an instant.
+    fn closest(&self, observer: [f64; 3], instant: DateTime<Utc>) -> Option<DateTime<Utc>>;
+
+    /// The fit's report, or nothing where no candidate is usable.
+    fn fit(
+        &self,
+        samples: &Samples,
+        observer: [f64; 3],
+        centre: f64,
+        measured: DateTime<Utc>,
+    ) -> Option<Report>;
+}
+
 /// Nanoseconds in a second.
 const SECOND: i64 = 1_000_000_000;
 
@@ -95,23 +134,6 @@ pub fn instant(n: i64) -> DateTime<Utc> {
 /// The count of nanoseconds since 1970 of an instant.
 pub fn nanoseconds(instant: DateTime<Utc>) -> i64 {
     instant.timestamp_nanos_opt().expect("an i64 holds it")
-}
-
-/// A table as the Rust takes it.
-pub fn orbit(table: &Table) -> OrbitModel {
-    let rows = table.instants.iter().zip(table.positions.as_chunks().0);
-    let coordinates = rows.map(|(&n, &position)| Sp3Coordinate {
-        time: instant(n),
-        position,
-        velocity: None,
-        clock_offset: 0.0,
-    });
-    OrbitModel::Sp3 {
-        orbit: SatelliteOrbit {
-            sat_name: String::new(),
-            coordinates: coordinates.collect(),
-        },
-    }
 }
 
 /// A recording as the Rust takes it.
@@ -134,41 +156,10 @@ pub fn model_of(numbers: &[f64; 32]) -> ChebyshevOrbit {
     }
 }
 
-/// The 32 numbers of the Rust's model.
-pub fn numbers(model: &ChebyshevOrbit) -> [f64; 32] {
-    let mut numbers = [model.t0; 32];
-    numbers[1] = model.t9;
-    numbers[2..].copy_from_slice([model.cx, model.cy, model.cz].as_flattened());
-    numbers
-}
-
-/// The model of the window about an instant, or nothing where it has no inverse.
-#[inline(never)]
-pub fn model(orbit: &OrbitModel, instant: DateTime<Utc>) -> Option<ChebyshevOrbit> {
-    let OrbitModel::Sp3 { orbit } = orbit;
-    orbit.get_chebyshev_model(instant)
-}
-
 /// Position and velocity by a model.
 #[inline(never)]
 pub fn evaluate(model: &ChebyshevOrbit, instant: DateTime<Utc>) -> Option<Motion> {
     model.evaluate(instant)
-}
-
-/// Position and velocity by a table, or nothing where its window has no inverse.
-#[inline(never)]
-pub fn propagate(orbit: &OrbitModel, instant: DateTime<Utc>) -> Option<Motion> {
-    orbit.propagate_ecef(instant)
-}
-
-/// The instant of the closest approach about an instant.
-#[inline(never)]
-pub fn closest(
-    orbit: &OrbitModel,
-    observer: [f64; 3],
-    instant: DateTime<Utc>,
-) -> Option<DateTime<Utc>> {
-    find_pca_time(orbit, observer, instant)
 }
 
 /// The means, one for each second that holds a sample.
@@ -195,18 +186,6 @@ pub fn slant_range(centre: f64, slope: f64) -> f64 {
     estimate_slant_range(centre, slope)
 }
 
-/// The fit's report, or nothing where no candidate is usable.
-#[inline(never)]
-pub fn fit(
-    orbit: &OrbitModel,
-    samples: &Samples,
-    observer: [f64; 3],
-    centre: f64,
-    measured: DateTime<Utc>,
-) -> Option<Report> {
-    fit_satellite(orbit, samples, observer, centre, measured)
-}
-
 /// The instant that a fit is taken about, and whether it is the fallback.
 pub struct Measured {
     pub instant: DateTime<Utc>,
@@ -225,13 +204,13 @@ pub fn measured(means: &Samples) -> Measured {
 /// The means, then the fit on them about the measured approach.
 #[inline(never)]
 pub fn pass(
-    orbit: &OrbitModel,
+    orbit: &dyn Orbit,
     samples: &Samples,
     observer: [f64; 3],
     centre: f64,
 ) -> (Vec<(DateTime<Utc>, f64)>, Option<Report>) {
     let means = downsample_data(samples);
-    let report = fit_satellite(orbit, &means, observer, centre, measured(&means).instant);
+    let report = orbit.fit(&means, observer, centre, measured(&means).instant);
     (means, report)
 }
 

@@ -48,6 +48,11 @@ pub fn over(random: &mut Random, orbit: Orbit, table: Table) -> Call {
 pub fn any_table(random: &mut Random) -> Call {
     let spacing = random.pick(&SPACINGS);
     let table = tables::draw(random, spacing);
+    by(random, table)
+}
+
+/// This table, any observer, and one of the instants asked of it.
+pub fn by(random: &mut Random, table: Table) -> Call {
     let instants = tables::asked(random, &table);
     let resting = [0, 1, 2].map(|axis| table.positions[axis]);
     let elsewhere = tables::place(random);

@@ -1,13 +1,15 @@
 //! What can be wrong with the inputs of a call: every way of failing each check, and the values that just pass.
 
-use super::doubles::{neighbours, power_of_two};
+use super::doubles::{nans, neighbours, power_of_two};
 use super::integers::INSTANT_LIMIT;
 use super::orbits::{EARTH, Orbit};
 use super::random::Random;
 use super::recordings::Recording;
 use super::tables::{PRESENT, SECOND, Table};
-use crate::calls::{Call, Part};
+use super::tolerances;
+use crate::calls::{Call, Entry, Part};
 use crate::checks::{COORDINATES, FARTHEST, NEAREST, SAMPLES};
+use crate::reference::TOLERANCE;
 use std::array::from_fn;
 
 /// A change of one part of a call.
@@ -55,6 +57,7 @@ pub fn sound(rows: usize, samples: usize) -> Call {
         centre: 1e9,
         slope: -20.0,
         instant: PRESENT + 310 * SECOND,
+        tolerance: TOLERANCE,
         areas: [samples + 3, samples + 2],
     }
 }
@@ -82,6 +85,7 @@ pub fn all() -> Vec<Change> {
     list.extend(instants_that_do_not_rise());
     list.extend(misplacements());
     list.extend(wrong_frequencies());
+    list.extend(wrong_tolerances());
     list
 }
 
@@ -256,6 +260,19 @@ fn centre_of(number: u8, x: f64) -> Change {
     fault(number, Part::Centre, move |call| call.centre = x)
 }
 
+/// Check 16: tolerances that are not finite or below zero.
+fn wrong_tolerances() -> Vec<Change> {
+    let mut list = nans();
+    list.extend([f64::INFINITY, f64::NEG_INFINITY]);
+    list.extend([-power_of_two(-1074), -1e-9, -1.0, f64::MIN]);
+    list.into_iter().map(|x| tolerance_of(16, x)).collect()
+}
+
+/// The tolerance.
+fn tolerance_of(number: u8, x: f64) -> Change {
+    fault(number, Part::Tolerance, move |call| call.tolerance = x)
+}
+
 /// Every value that just passes.
 pub fn just_passing() -> Vec<Change> {
     let mut list = Vec::new();
@@ -278,6 +295,8 @@ pub fn just_passing() -> Vec<Change> {
         list.extend(frequencies_at(0, x));
     }
     list.extend([f64::MAX, power_of_two(-1074)].map(|x| centre_of(0, x)));
+    list.extend(tolerances::values().map(|x| tolerance_of(0, x)));
+    list.push(tolerance_of(0, f64::MAX));
     list
 }
 
@@ -313,6 +332,24 @@ fn places_that_just_pass() -> Vec<Change> {
         }
     }
     list
+}
+
+/// Calls that pass every check of the inputs and are refused after these, each with its number: windows without an inverse, by 8 or, where no sample has a
+/// position, by 10; and squares of residuals that overflow, by 10.
+pub fn refused_later(entry: Entry) -> Vec<(u8, Call)> {
+    let sound = sound(12, 7);
+    let mut close = sound.clone();
+    close.table.instants[6] = close.table.instants[5] + 1;
+    let mut overflowing = sound;
+    for pair in overflowing.recording.frequencies.chunks_mut(2) {
+        pair.fill(1e300);
+        pair[0] = -1e300;
+    }
+    match entry {
+        Entry::GetChebyshevModel | Entry::PropagateEcef => vec![(8, close)],
+        Entry::FitSatellite | Entry::Pass => vec![(10, close), (10, overflowing)],
+        _ => Vec::new(),
+    }
 }
 
 /// Writes to the place, if the list has one.

@@ -114,15 +114,7 @@ pub fn overhead_at(random: &mut Random, table: Table, closest: i64) -> Call {
 /// A low satellite that passes an observer about the middle of its table.
 fn scene(random: &mut Random) -> Scene {
     let (orbit, table) = low(random);
-    let [first, _] = ends(&table);
-    let middle = table.instants[table.instants.len() / 2];
-    let observer = orbit.observer(random, (middle - first) as f64 / SECOND as f64);
-    let passing = passes::closest_to(&table, observer, middle);
-    Scene {
-        table,
-        observer,
-        passing,
-    }
+    Scene::of(random, &orbit, table)
 }
 
 /// So many samples truly before the table, within it about the passing, and after it.

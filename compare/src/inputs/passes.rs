@@ -75,6 +75,19 @@ impl Scene {
         }
     }
 
+    /// A satellite that passes an observer about the middle of its table.
+    pub fn of(random: &mut Random, orbit: &Orbit, table: Table) -> Self {
+        let middle = table.instants[table.instants.len() / 2];
+        let after = (middle - table.instants[0]) as f64 / SECOND as f64;
+        let observer = orbit.observer(random, after);
+        let passing = closest_to(&table, observer, middle);
+        Scene {
+            table,
+            observer,
+            passing,
+        }
+    }
+
     /// The satellite of an even table, right over the observer so long after its first row.
     fn overhead(orbit: &Orbit, table: Table, after: i64) -> Self {
         let place = orbit.position(after as f64 / SECOND as f64);
@@ -155,8 +168,13 @@ fn lateness(random: &mut Random) -> i64 {
 /// A recording without noise, a sample to the second: its clock offset in seconds is known.
 pub fn known(random: &mut Random, size: Size, uneven: bool) -> (Call, f64) {
     let scene = Scene::draw(random, uneven, size.rows);
+    known_in(random, scene, size.samples)
+}
+
+/// The same in this scene.
+pub(super) fn known_in(random: &mut Random, scene: Scene, samples: usize) -> (Call, f64) {
     let (centre, late) = (centre(random), lateness(random));
-    let mut recording = scene.heard(&about(scene.passing, size.samples, SECOND), late, centre);
+    let mut recording = scene.heard(&about(scene.passing, samples, SECOND), late, centre);
     let offset = random.between(-5e3, 5e3);
     recording.frequencies.iter_mut().for_each(|f| *f += offset);
     let measured = scene.passing + late + random.count(-300, 300) * MILLISECOND;

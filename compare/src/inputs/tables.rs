@@ -85,10 +85,24 @@ pub fn draw(random: &mut Random, spacing: Spacing) -> Table {
 pub fn of_rows(random: &mut Random, spacing: Spacing, rows: usize) -> Table {
     let offsets = spacing(random, rows);
     let instants = placed(random, &offsets);
+    at(random, instants)
+}
+
+/// A table of any sort of position at these instants.
+pub(super) fn at(random: &mut Random, instants: Vec<i64>) -> Table {
     let positions = random.pick(&POSITIONS)(random, &instants);
     Table {
         instants,
         positions,
+    }
+}
+
+/// The first row of the window about a row: "Start is 0 if idx < 4, length − 10 if idx + 5 ≥ length, else idx − 4".
+pub fn window_start(idx: usize, length: usize) -> usize {
+    match idx {
+        0..4 => 0,
+        _ if idx + 5 >= length => length - 10,
+        _ => idx - 4,
     }
 }
 
@@ -211,7 +225,12 @@ fn one_gap_longer(random: &mut Random, rows: usize) -> Vec<i64> {
     let odd = random.count(SECOND, usual);
     let gap = random.pick(&[usual, odd]);
     let longer = gap + SECOND * 9 / 8 + random.pick(&[0, 0, 0, 1, -1, 100]);
-    let mut k = random.below(9);
+    with_longer_gaps(rows, gap, longer, random.below(9))
+}
+
+/// Always the same gap, but every ninth one is longer; `before` are those before the first such one, counted from behind.
+pub(super) fn with_longer_gaps(rows: usize, gap: i64, longer: i64, before: usize) -> Vec<i64> {
+    let mut k = before;
     summed(rows, || {
         k += 1;
         if k.is_multiple_of(9) { longer } else { gap }

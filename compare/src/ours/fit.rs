@@ -2,7 +2,7 @@
 
 use super::areas::Areas;
 use super::byte::Byte;
-use super::units::{Hertz, Metres, Nanoseconds};
+use super::units::{Hertz, Metres, Nanoseconds, Seconds};
 use super::{answer, marked_double, marked_whole};
 use compare::answers::{Answer, doubles};
 use compare::calls::Call;
@@ -24,6 +24,7 @@ unsafe extern "C" {
         z: Metres,
         f0: Hertz,
         measured: Nanoseconds,
+        tolerance: Seconds,
         report: &mut [f64; 3],
         count: &mut u64,
         approach: &mut i64,
@@ -43,6 +44,7 @@ unsafe extern "C" {
         y: Metres,
         z: Metres,
         f0: Hertz,
+        tolerance: Seconds,
         mean_instants: *mut i64,
         mean_instants_length: usize,
         mean_frequencies: *mut f64,
@@ -110,6 +112,7 @@ pub fn write_fit(call: &Call, places: &mut Places) -> u8 {
             z,
             Hertz(call.centre),
             Nanoseconds(call.instant),
+            Seconds(call.tolerance),
             &mut places.report,
             &mut places.count,
             &mut places.approach,
@@ -143,6 +146,7 @@ pub fn write_pass(
             y,
             z,
             Hertz(call.centre),
+            Seconds(call.tolerance),
             mean_instants.as_mut_ptr(),
             mean_instants.len(),
             mean_frequencies.as_mut_ptr(),

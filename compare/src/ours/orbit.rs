@@ -1,7 +1,7 @@
 //! The tabulated orbit: model, evaluation, propagation, closest approach.
 
 use super::byte::Byte;
-use super::units::{Metres, Nanoseconds};
+use super::units::{Metres, Nanoseconds, Seconds};
 use super::{answer, marked_double, marked_whole};
 use compare::answers::{Answer, doubles};
 use compare::calls::Call;
@@ -16,6 +16,7 @@ unsafe extern "C" {
         positions: *const f64,
         positions_length: usize,
         instant: Nanoseconds,
+        tolerance: Seconds,
         model: &mut [f64; 32],
     ) -> u8;
     safe fn orbit_evaluate(model: &[f64; 32], instant: Nanoseconds, motion: &mut [f64; 6]) -> u8;
@@ -25,6 +26,7 @@ unsafe extern "C" {
         positions: *const f64,
         positions_length: usize,
         instant: Nanoseconds,
+        tolerance: Seconds,
         motion: &mut [f64; 6],
         place: &mut u8,
     ) -> u8;
@@ -37,13 +39,14 @@ unsafe extern "C" {
         y: Metres,
         z: Metres,
         instant: Nanoseconds,
+        tolerance: Seconds,
         found: &mut i64,
         place: &mut u8,
     ) -> u8;
 }
 
 /// The refusal's number, 0 if there is none; then the model is written.
-pub fn write_model(table: &Table, instant: i64, model: &mut [f64; 32]) -> u8 {
+pub fn write_model(table: &Table, instant: i64, tolerance: f64, model: &mut [f64; 32]) -> u8 {
     let (instants, positions) = (&table.instants, &table.positions);
     // SAFETY: each pointer is to as many numbers as its length says.
     unsafe {
@@ -53,6 +56,7 @@ pub fn write_model(table: &Table, instant: i64, model: &mut [f64; 32]) -> u8 {
             positions.as_ptr(),
             positions.len(),
             Nanoseconds(instant),
+            Seconds(tolerance),
             model,
         )
     }
@@ -64,7 +68,13 @@ pub fn write_evaluation(model: &[f64; 32], instant: i64, motion: &mut [f64; 6]) 
 }
 
 /// The refusal's number, 0 if there is none; then position and velocity by a table are written, and where the instant lies.
-pub fn write_propagation(table: &Table, instant: i64, motion: &mut [f64; 6], place: &mut u8) -> u8 {
+pub fn write_propagation(
+    table: &Table,
+    instant: i64,
+    tolerance: f64,
+    motion: &mut [f64; 6],
+    place: &mut u8,
+) -> u8 {
     let (instants, positions) = (&table.instants, &table.positions);
     // SAFETY: each pointer is to as many numbers as its length says.
     unsafe {
@@ -74,6 +84,7 @@ pub fn write_propagation(table: &Table, instant: i64, motion: &mut [f64; 6], pla
             positions.as_ptr(),
             positions.len(),
             Nanoseconds(instant),
+            Seconds(tolerance),
             motion,
             place,
         )
@@ -95,6 +106,7 @@ pub fn write_closest(call: &Call, found: &mut i64, place: &mut u8) -> u8 {
             y,
             z,
             Nanoseconds(call.instant),
+            Seconds(call.tolerance),
             found,
             place,
         )
@@ -104,7 +116,7 @@ pub fn write_closest(call: &Call, found: &mut i64, place: &mut u8) -> u8 {
 /// The answer of `get_chebyshev_model`.
 pub fn model(call: &Call) -> Answer {
     let mut model = [marked_double(); 32];
-    let refusal = write_model(&call.table, call.instant, &mut model);
+    let refusal = write_model(&call.table, call.instant, call.tolerance, &mut model);
     answer(refusal, doubles(&model))
 }
 
@@ -119,7 +131,13 @@ pub fn evaluation(call: &Call) -> Answer {
 pub fn propagation(call: &Call) -> Answer {
     let mut motion = [marked_double(); 6];
     let mut place = Byte::marked();
-    let refusal = write_propagation(&call.table, call.instant, &mut motion, place.lent());
+    let refusal = write_propagation(
+        &call.table,
+        call.instant,
+        call.tolerance,
+        &mut motion,
+        place.lent(),
+    );
     let mut words = doubles(&motion);
     words.push(Word::Whole(place.told()));
     answer(refusal, words)

@@ -4,6 +4,10 @@
 #[repr(C)]
 pub struct Metres(pub f64);
 
+/// A span of time.
+#[repr(C)]
+pub struct Seconds(pub f64);
+
 /// A frequency.
 #[repr(C)]
 pub struct Hertz(pub f64);

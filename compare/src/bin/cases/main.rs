@@ -10,6 +10,7 @@ mod numbers;
 mod orbit;
 mod samples;
 mod sp3;
+mod tolerances;
 
 use compare::boards::{self, BoardEntry};
 use compare::calls::{Call, Entry};
@@ -123,8 +124,13 @@ fn inverse_answers(inverse: Option<Matrix>) -> Vec<String> {
 /// The cases of every entry; of each first those of the paper, then edges, then random ones.
 fn all_cases() -> Vec<Case> {
     let mut cases = cases_of_numbers();
-    let calls = [orbit::cases(), samples::cases(), fit::cases()].into_iter();
-    let calls = calls.flatten();
+    let calls = [
+        orbit::cases(),
+        samples::cases(),
+        fit::cases(),
+        tolerances::cases(),
+    ];
+    let calls = calls.into_iter().flatten();
     cases.extend(calls.map(|(entry, call)| Case::Of(entry, Box::new(call))));
     cases.extend(sp3::cases().into_iter().map(Case::ReadSp3));
     cases.extend(board::cases().into_iter().map(Case::FleetBoard));
