@@ -13,8 +13,13 @@
  * Each unit is a type of its own with one field, so that kilometres cannot stand where metres are meant: orbit_metres m = {1500.0};
  * The library takes and gives these structs by value. An answer of several numbers is a struct of them, so that each keeps its unit.
  *
- * Refusals. The checks are made in this order, and the first that fails gives the number. Refusals 11 to 13 are of orbit_read_sp3
- * alone, 14 and 15 of orbit_fleet_board alone, and neither of these two makes any of the others.
+ * A position goes by a window of ten coordinates about its instant. The tolerance says which windows are even: where none of the nine gaps
+ * is off their mean by more than the tolerance, the window is taken as exactly evenly spaced; else its own instants are used. Give 0.001 s
+ * for a file whose seller promises a millisecond. With ORBIT_EVEN_TOLERANCE, which is document 01's 1.0 s and was the only value before, a
+ * low satellite can be taken kilometres off its track.
+ *
+ * Refusals. The checks are made in this order, but 16 behind 7 and before 8, and the first that fails gives the number. Refusals 11 to 13
+ * are of orbit_read_sp3 alone, 14 and 15 of orbit_fleet_board alone, and neither of these two makes any of the others.
  *
  *    1  What is wrong: fewer than 10 or more than 4,096 coordinates, or not three position numbers for each instant.
  *       What to do: lend a part of the table with 10 to 4,096 coordinates, and all three numbers of each.
@@ -46,6 +51,8 @@
  *       What to do: lend at least one entry and at most 64; of each satellite the latest is enough.
  *   15  What is wrong: the clock offset, frequency offset or RMSE of an entry is not finite, superseded entries included.
  *       What to do: find the entry that holds it, and strike it out.
+ *   16  What is wrong: the tolerance of an even window is not finite or below zero.
+ *       What to do: give the seconds by which the gaps of a window may be off their mean, such as 0.001 for a file that promises a millisecond.
  */
 #ifndef ORBIT_H
 #define ORBIT_H
@@ -71,6 +78,9 @@ typedef struct { double metres_per_second; } orbit_metres_per_second;
 /* The most coordinates that a table may have (refusal 1), the most samples of a recording (refusal 2), and the most entries of a board
  * (refusal 14). */
 enum { ORBIT_MOST_COORDINATES = 4096, ORBIT_MOST_SAMPLES = 1312, ORBIT_MOST_ENTRIES = 64 };
+
+/* The tolerance of an even window in document 01: its gaps may be up to 1.0 s off their mean. No function takes it by itself. */
+static const orbit_seconds ORBIT_EVEN_TOLERANCE = {1.0};
 
 /* Where an instant lies: before the first coordinate of a table, from the first to the last, both included, or after the last.
  * Outside the table a position is extrapolated: the farther outside, the less it can be trusted. */
@@ -123,23 +133,23 @@ void orbit_evaluate_chebyshev(const double c[10], double tau, double *value, dou
 /* The inverse of a ten by ten matrix, both row after row: 0, or 8 and `inverse` untouched. */
 uint8_t orbit_invert_matrix_10(const double rows[100], double inverse[100]);
 
-/* The Chebyshev model of the ten coordinates about an instant. Refuses by 1, 4, 5, 6, 8. */
+/* The Chebyshev model of the ten coordinates about an instant. Refuses by 1, 4, 5, 6, 16, 8. */
 uint8_t orbit_get_chebyshev_model(const int64_t *instants, size_t instant_count, const double *positions, size_t position_count,
-                                  orbit_nanoseconds instant, orbit_model *model);
+                                  orbit_nanoseconds instant, orbit_seconds tolerance, orbit_model *model);
 
 /* Position and velocity by such a model at an instant. Refuses by 4. */
 uint8_t orbit_evaluate(const orbit_model *model, orbit_nanoseconds instant, orbit_motion *out);
 
 /* Position and velocity by a table at an instant; outside the table they are extrapolated. Into place: where the instant lies, ORBIT_BEFORE,
- * ORBIT_WITHIN or ORBIT_AFTER. Refuses by 1, 4, 5, 6, 8. */
+ * ORBIT_WITHIN or ORBIT_AFTER. Refuses by 1, 4, 5, 6, 16, 8. */
 uint8_t orbit_propagate_ecef(const int64_t *instants, size_t instant_count, const double *positions, size_t position_count,
-                             orbit_nanoseconds instant, orbit_motion *out, uint8_t *place);
+                             orbit_nanoseconds instant, orbit_seconds tolerance, orbit_motion *out, uint8_t *place);
 
 /* The instant at which the satellite is closest to the observer at (ox, oy, oz), to the second, within 51 minutes of an instant. Into
- * place: where the instant found lies, as above. Refuses by 1, 4, 5, 6. */
+ * place: where the instant found lies, as above. Refuses by 1, 4, 5, 6, 16. */
 uint8_t orbit_find_pca_time(const int64_t *instants, size_t instant_count, const double *positions, size_t position_count,
-                            orbit_metres ox, orbit_metres oy, orbit_metres oz, orbit_nanoseconds instant, orbit_nanoseconds *found,
-                            uint8_t *place);
+                            orbit_metres ox, orbit_metres oy, orbit_metres oz, orbit_nanoseconds instant, orbit_seconds tolerance,
+                            orbit_nanoseconds *found, uint8_t *place);
 
 /* The means of a recording, one for each second that holds a sample, seconds rising, at the front of the two areas; the rest of each stays.
  * Their number goes into count. Refuses by 2, 3, 4. */
@@ -163,20 +173,21 @@ orbit_metres orbit_estimate_slant_range(orbit_hertz f0, double slope);
 /* The fit of a recording to a satellite, about the instant of its measured approach. Into count: the number of samples; into approach:
  * that instant again; into fallback: 0, since it was given; into outside: how many of the samples lie before the first coordinate or after
  * the last, once each is moved earlier by the clock offset, cut toward zero to whole microseconds, as the fit moves it. A sample without a
- * position there (refusal 8) is counted if it lies outside, and not if it lies within. Refuses by 1, 2, 4, 5, 6, 7, 10. */
+ * position there (refusal 8) is counted if it lies outside, and not if it lies within. Refuses by 1, 2, 4, 5, 6, 7, 16, 10. */
 uint8_t orbit_fit_satellite(const int64_t *instants, size_t instant_count, const double *positions, size_t position_count,
                             const int64_t *samples, size_t sample_count, const double *frequencies, size_t frequency_count,
-                            orbit_metres ox, orbit_metres oy, orbit_metres oz, orbit_hertz f0, orbit_nanoseconds measured,
+                            orbit_metres ox, orbit_metres oy, orbit_metres oz, orbit_hertz f0,
+                            orbit_nanoseconds measured, orbit_seconds tolerance,
                             orbit_report *report, uint64_t *count, orbit_nanoseconds *approach, uint8_t *fallback, uint64_t *outside);
 
 /* The whole pass: the means of a recording, as above, their measured approach or else the mean at index count / 2, and the fit of the means.
  * Into count: the number of means; into approach: the instant that the clock offset was taken about, by the recorder's clock; into fallback:
  * 1 if that is the mean at index count / 2, since no slope of the means is below zero, 0 if it is their measured approach; into outside:
  * how many of the means lie outside the table, counted as above. Where any do, the clock offset goes by extrapolated positions and may be
- * far off: take an orbit file that holds the whole pass. Refuses by 1, 2, 3, 4, 5, 6, 7, 10; under 10 the means stay written. */
+ * far off: take an orbit file that holds the whole pass. Refuses by 1, 2, 3, 4, 5, 6, 7, 16, 10; under 10 the means stay written. */
 uint8_t orbit_pass(const int64_t *instants, size_t instant_count, const double *positions, size_t position_count,
                    const int64_t *samples, size_t sample_count, const double *frequencies, size_t frequency_count,
-                   orbit_metres ox, orbit_metres oy, orbit_metres oz, orbit_hertz f0,
+                   orbit_metres ox, orbit_metres oy, orbit_metres oz, orbit_hertz f0, orbit_seconds tolerance,
                    int64_t *mean_instants, size_t mean_instant_count, double *mean_frequencies, size_t mean_frequency_count,
                    orbit_report *report, uint64_t *count, orbit_nanoseconds *approach, uint8_t *fallback, uint64_t *outside);
 

@@ -16,6 +16,10 @@
 static const uint8_t satellite[3] = {'L', '0', '1'};
 static const orbit_leap_seconds leap_seconds = {18};
 
+/* The tolerance of an even window. Sellers of orbit files promise a millisecond: where a file is off by more, its own instants are used
+ * instead of even ones. */
+static const orbit_seconds tolerance = {0.001};
+
 /* The sample data; each file says what its rows hold. */
 static const struct { int64_t instant; double frequency; } recording[] = {
 #include "recording.inc"
@@ -139,7 +143,7 @@ static uint8_t run_pass(const pass_table *table, const pass_recording *samples, 
     const observer_position o = observer();
     return orbit_pass(table->instants, table->count, table->positions, 3 * table->count,
                       samples->instants, sample_count, samples->frequencies, sample_count,
-                      o.x, o.y, o.z, centre_frequency(),
+                      o.x, o.y, o.z, centre_frequency(), tolerance,
                       answer->mean_instants, ORBIT_MOST_SAMPLES, answer->mean_frequencies, ORBIT_MOST_SAMPLES,
                       &answer->report, &answer->count, &answer->approach, &answer->fallback, &answer->outside);
 }
@@ -244,7 +248,7 @@ static uint8_t print_closest(const pass_table *table, const pass_answer *answer)
     orbit_nanoseconds found;
     uint8_t place;
     const uint8_t refusal = orbit_find_pca_time(table->instants, table->count, table->positions, 3 * table->count,
-                                                o.x, o.y, o.z, answer->approach, &found, &place);
+                                                o.x, o.y, o.z, answer->approach, tolerance, &found, &place);
     if (refusal == 0) {
         print_instant_by_table("closest approach", found);
         printf("%s\n", place_words(place));
@@ -275,7 +279,7 @@ static void print_last_mean(const pass_table *table, const pass_answer *answer)
     orbit_motion motion;
     uint8_t place;
     const uint8_t refusal = orbit_propagate_ecef(table->instants, table->count, table->positions, 3 * table->count,
-                                                 instant, &motion, &place);
+                                                 instant, tolerance, &motion, &place);
     print_instant_by_table("last mean", instant);
     if (refusal == 0) {
         printf("%s, the satellite %.0f m away\n", place_words(place), distance_to(&motion).metres);
@@ -307,9 +311,9 @@ static uint8_t print_slope_and_range(const pass_answer *answer)
     return refusal;
 }
 
-static bool near(double found, double expected, double tolerance)
+static bool near(double found, double expected, double apart)
 {
-    return found - expected <= tolerance && expected - found <= tolerance;
+    return found - expected <= apart && expected - found <= apart;
 }
 
 /* Whether the fit found the offsets that went into the sample data. */
@@ -332,6 +336,7 @@ static bool show_table(const char *name, const sp3_file *file, pass_table *table
         return false;
     }
     printf("table             %" PRIu64 " coordinates of %.3s from %s\n", table->count, (const char *)satellite, name);
+    printf("tolerance         %g s: ten coordinates with a gap farther off the mean gap are taken by their own instants\n", tolerance.seconds);
     return true;
 }
 

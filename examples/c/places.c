@@ -23,9 +23,9 @@ static bool call_both(const pass_table *table, size_t count, uint8_t refusal, ar
     const orbit_nanoseconds before = {table->instants[0] - 1}, about = {table->instants[MIDDLE_ROW]};
     memset(lent, MARK, sizeof *lent);
     const uint8_t propagated = orbit_propagate_ecef(table->instants, count, table->positions, 3 * count,
-                                                    before, &lent->motion, &lent->propagated[1]);
+                                                    before, tolerance, &lent->motion, &lent->propagated[1]);
     const uint8_t closest = orbit_find_pca_time(table->instants, count, table->positions, 3 * count,
-                                                o.x, o.y, o.z, about, &lent->found, &lent->closest[1]);
+                                                o.x, o.y, o.z, about, tolerance, &lent->found, &lent->closest[1]);
     return propagated == refusal && closest == refusal;
 }
 

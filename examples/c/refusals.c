@@ -41,6 +41,8 @@ static const refusal_text texts[] = {
      "lend at least one entry and at most 64; of each satellite the latest is enough."},
     {15, "the clock offset, frequency offset or RMSE of an entry is not finite, superseded entries included.",
      "find the entry that holds it, and strike it out."},
+    {16, "the tolerance of an even window is not finite or below zero.",
+     "give the seconds by which the gaps of a window may be off their mean, such as 0.001 for a file that promises a millisecond."},
 };
 
 static const refusal_text unknown = {0, "the library has no such refusal.", "look whether the library and refusals.c belong together."};

@@ -17,6 +17,10 @@ pub const SATELLITE: [u8; 3] = *b"L01";
 /// How far GPS time was ahead of UTC on the day of the pass.
 pub const LEAP_SECONDS: LeapSeconds = LeapSeconds(18);
 
+/// The tolerance of an even window. Sellers of orbit files promise a millisecond: where a file is off by more, its own instants are used
+/// instead of even ones.
+pub const TOLERANCE: Seconds = Seconds(0.001);
+
 /// The offsets that went into the recording.
 pub struct Known {
     pub clock_offset: Seconds,

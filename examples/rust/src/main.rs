@@ -4,7 +4,7 @@
 
 mod data;
 
-use data::{Known, LEAP_SECONDS, ORBIT_FILE, SATELLITE, Sample};
+use data::{Known, LEAP_SECONDS, ORBIT_FILE, SATELLITE, Sample, TOLERANCE};
 use orbit::{
     Entry, Hertz, MOST_COORDINATES, MOST_SAMPLES, MeansArea, Metres, Nanoseconds, Place, Position,
     Propagation, Recording, Refusal, Report, Seconds,
@@ -117,6 +117,10 @@ fn show_pass(sample: &Sample) -> Result<(Report, bool), Refusal> {
     );
     let satellite = SATELLITE.escape_ascii();
     println!("table             {coordinates} coordinates of {satellite} from table.sp3");
+    println!(
+        "tolerance         {} s: ten coordinates with a gap farther off the mean gap are taken by their own instants",
+        TOLERANCE.0
+    );
     let mut areas = Areas::new();
     let report = run_pass(sample, sample.recording(), &mut areas)?;
     let means = areas.means(&report);
@@ -207,6 +211,7 @@ fn run_pass(sample: &Sample, recording: Recording, areas: &mut Areas) -> Result<
         recording,
         sample.observer,
         sample.centre_frequency,
+        TOLERANCE,
         areas.lent(),
     )
 }
@@ -242,7 +247,8 @@ fn print_outside(report: &Report) {
 
 /// The instant of the closest approach and that of the last mean, by the table's clock, and where they lie.
 fn print_places(sample: &Sample, report: &Report, means: Recording) -> Result<(), Refusal> {
-    let closest = orbit::find_pca_time(sample.table(), sample.observer, report.approach)?;
+    let closest =
+        orbit::find_pca_time(sample.table(), sample.observer, report.approach, TOLERANCE)?;
     let (instant, place) = (by_table(closest.instant), place_words(closest.place));
     println!("closest approach  {instant}, {place}");
     let last = moved(means.instants[means.instants.len() - 1], report);
@@ -260,7 +266,7 @@ fn by_table(instant: Nanoseconds) -> String {
 /// Where an instant lies, and how far the satellite is then by the table. Without a position there it is said so, and no error: the
 /// fit leaves such a mean out.
 fn place_and_distance(sample: &Sample, instant: Nanoseconds) -> String {
-    match orbit::propagate_ecef(sample.table(), instant) {
+    match orbit::propagate_ecef(sample.table(), instant, TOLERANCE) {
         Ok(Propagation { motion, place }) => {
             let Metres(distance) = distance(motion.position, sample.observer);
             let place = place_words(place);

@@ -3,6 +3,11 @@
 //! Each unit is a type, also inside slices: kilometres, hertz or a bare number do not compile where metres are meant.
 //! Every function takes any numbers. One that can refuse answers a [`Refusal`], and then writes to no lent area (but for the
 //! means of [`pass`] under [`Refusal::NoShiftFits`]).
+//!
+//! A position goes by a window of ten coordinates about its instant. The tolerance says which windows are even: where none of the
+//! nine gaps is off their mean by more than the tolerance, the window is taken as exactly evenly spaced; else its own instants are
+//! used. Give `Seconds(0.001)` for a file whose seller promises a millisecond. With [`EVEN_TOLERANCE`], which is document 01's 1.0 s
+//! and was the only value before, a low satellite can be taken kilometres off its track.
 
 mod refusal;
 
@@ -53,6 +58,9 @@ pub const MOST_SAMPLES: usize = 1312;
 
 /// The most entries that a board may have (refusal 14).
 pub const MOST_ENTRIES: usize = 64;
+
+/// The tolerance of an even window in document 01: its gaps may be up to 1.0 s off their mean. No function takes it by itself.
+pub const EVEN_TOLERANCE: Seconds = Seconds(1.0);
 
 /// x, y and z, earth-centred and earth-fixed.
 pub type Position = [Metres; 3];
@@ -239,6 +247,7 @@ unsafe extern "C" {
         positions: *const Metres,
         position_count: usize,
         instant: Nanoseconds,
+        tolerance: Seconds,
         model: &mut ChebyshevModel,
     ) -> u8;
     fn orbit_propagate_ecef(
@@ -247,6 +256,7 @@ unsafe extern "C" {
         positions: *const Metres,
         position_count: usize,
         instant: Nanoseconds,
+        tolerance: Seconds,
         out: &mut Motion,
         place: &mut u8,
     ) -> u8;
@@ -259,6 +269,7 @@ unsafe extern "C" {
         oy: Metres,
         oz: Metres,
         instant: Nanoseconds,
+        tolerance: Seconds,
         found: &mut Nanoseconds,
         place: &mut u8,
     ) -> u8;
@@ -301,6 +312,7 @@ unsafe extern "C" {
         oz: Metres,
         f0: Hertz,
         measured: Nanoseconds,
+        tolerance: Seconds,
         report: &mut Offsets,
         count: &mut u64,
         approach: &mut Nanoseconds,
@@ -320,6 +332,7 @@ unsafe extern "C" {
         oy: Metres,
         oz: Metres,
         f0: Hertz,
+        tolerance: Seconds,
         mean_instants: *mut Nanoseconds,
         mean_instant_count: usize,
         mean_frequencies: *mut Hertz,
@@ -377,8 +390,12 @@ pub fn invert_matrix_10(rows: &Matrix) -> Result<Matrix, Refusal> {
     Refusal::or(number, inverse)
 }
 
-/// The Chebyshev model of the ten coordinates about an instant. Refuses by 1, 4, 5, 6, 8.
-pub fn get_chebyshev_model(table: Table, instant: Nanoseconds) -> Result<ChebyshevModel, Refusal> {
+/// The Chebyshev model of the ten coordinates about an instant. Refuses by 1, 4, 5, 6, 16, 8.
+pub fn get_chebyshev_model(
+    table: Table,
+    instant: Nanoseconds,
+    tolerance: Seconds,
+) -> Result<ChebyshevModel, Refusal> {
     let (instants, positions) = (table.instants, table.positions.as_flattened());
     let mut model = ChebyshevModel::default();
     // SAFETY: each pointer is to as many numbers as the count after it says.
@@ -389,6 +406,7 @@ pub fn get_chebyshev_model(table: Table, instant: Nanoseconds) -> Result<Chebysh
             positions.as_ptr(),
             positions.len(),
             instant,
+            tolerance,
             &mut model,
         )
     };
@@ -403,8 +421,12 @@ pub fn evaluate(model: &ChebyshevModel, instant: Nanoseconds) -> Result<Motion, 
 }
 
 /// Position and velocity by a table at an instant, and where the instant lies; outside the table they are extrapolated. Refuses by
-/// 1, 4, 5, 6, 8.
-pub fn propagate_ecef(table: Table, instant: Nanoseconds) -> Result<Propagation, Refusal> {
+/// 1, 4, 5, 6, 16, 8.
+pub fn propagate_ecef(
+    table: Table,
+    instant: Nanoseconds,
+    tolerance: Seconds,
+) -> Result<Propagation, Refusal> {
     let (instants, positions) = (table.instants, table.positions.as_flattened());
     let (mut motion, mut place) = (Motion::default(), 0);
     // SAFETY: each pointer is to as many numbers as the count after it says.
@@ -415,6 +437,7 @@ pub fn propagate_ecef(table: Table, instant: Nanoseconds) -> Result<Propagation,
             positions.as_ptr(),
             positions.len(),
             instant,
+            tolerance,
             &mut motion,
             &mut place,
         )
@@ -424,11 +447,12 @@ pub fn propagate_ecef(table: Table, instant: Nanoseconds) -> Result<Propagation,
 }
 
 /// The instant at which the satellite is closest to the observer, to the second, within 51 minutes of an instant, and where the
-/// instant found lies. Refuses by 1, 4, 5, 6.
+/// instant found lies. Refuses by 1, 4, 5, 6, 16.
 pub fn find_pca_time(
     table: Table,
     [ox, oy, oz]: Position,
     instant: Nanoseconds,
+    tolerance: Seconds,
 ) -> Result<ClosestApproach, Refusal> {
     let (instants, positions) = (table.instants, table.positions.as_flattened());
     let (mut found, mut place) = (Nanoseconds(0), 0);
@@ -443,6 +467,7 @@ pub fn find_pca_time(
             oy,
             oz,
             instant,
+            tolerance,
             &mut found,
             &mut place,
         )
@@ -517,13 +542,14 @@ pub fn estimate_slant_range(f0: Hertz, slope: HertzPerSecond) -> Metres {
 }
 
 /// The fit of a recording to a satellite, about the instant of its measured approach, which the report repeats. Refuses by 1, 2, 4,
-/// 5, 6, 7, 10.
+/// 5, 6, 7, 16, 10.
 pub fn fit_satellite(
     table: Table,
     recording: Recording,
     [ox, oy, oz]: Position,
     f0: Hertz,
     measured: Nanoseconds,
+    tolerance: Seconds,
 ) -> Result<Report, Refusal> {
     let (instants, positions) = (table.instants, table.positions.as_flattened());
     let (samples, frequencies) = (recording.instants, recording.frequencies);
@@ -544,6 +570,7 @@ pub fn fit_satellite(
             oz,
             f0,
             measured,
+            tolerance,
             &mut fitted.offsets,
             &mut fitted.count,
             &mut fitted.approach,
@@ -556,12 +583,13 @@ pub fn fit_satellite(
 
 /// The whole pass: the means of a recording, at the front of the areas, their measured approach or else the mean at index
 /// count / 2, and the fit of the means; the report says which instant it was, and whether the latter. Refuses by 1, 2, 3, 4, 5,
-/// 6, 7, 10; under 10 the means stay written.
+/// 6, 7, 16, 10; under 10 the means stay written.
 pub fn pass(
     table: Table,
     recording: Recording,
     [ox, oy, oz]: Position,
     f0: Hertz,
+    tolerance: Seconds,
     means: MeansArea,
 ) -> Result<Report, Refusal> {
     let (instants, positions) = (table.instants, table.positions.as_flattened());
@@ -582,6 +610,7 @@ pub fn pass(
             oy,
             oz,
             f0,
+            tolerance,
             means.instants.as_mut_ptr(),
             means.instants.len(),
             means.frequencies.as_mut_ptr(),

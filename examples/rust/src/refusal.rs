@@ -2,8 +2,8 @@
 
 use std::fmt;
 
-/// Why the library gave no answer. The checks are made in this order; the first that fails is the refusal. 11 to 13 are of
-/// `read_sp3` alone, 14 and 15 of `fleet_board` alone, and neither of these two makes any of the others.
+/// Why the library gave no answer. The checks are made in this order, but 16 behind 7 and before 8; the first that fails is the
+/// refusal. 11 to 13 are of `read_sp3` alone, 14 and 15 of `fleet_board` alone, and neither of these two makes any of the others.
 #[derive(Clone, Copy, Debug, PartialEq, Eq)]
 pub enum Refusal {
     CoordinateCount = 1,
@@ -21,6 +21,7 @@ pub enum Refusal {
     NoPositionOrNoRoom = 13,
     EntryCount = 14,
     EntryNotFinite = 15,
+    ToleranceUnusable = 16,
 }
 
 use Refusal::*;
@@ -104,6 +105,11 @@ const TEXTS: &[Text] = &[
         EntryNotFinite,
         "the clock offset, frequency offset or RMSE of an entry is not finite, superseded entries included.",
         "find the entry that holds it, and strike it out.",
+    ),
+    (
+        ToleranceUnusable,
+        "the tolerance of an even window is not finite or below zero.",
+        "give the seconds by which the gaps of a window may be off their mean, such as 0.001 for a file that promises a millisecond.",
     ),
 ];
 

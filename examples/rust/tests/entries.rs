@@ -3,11 +3,11 @@
 #[path = "../src/data.rs"]
 mod data;
 
-use data::{LEAP_SECONDS, ORBIT_FILE, SATELLITE, Sample};
+use data::{LEAP_SECONDS, ORBIT_FILE, SATELLITE, Sample, TOLERANCE};
 use orbit::{
-    ClosestApproach, Entry, Hertz, HertzPerSecond, LeapSeconds, MOST_COORDINATES, MOST_ENTRIES,
-    MOST_SAMPLES, MeansArea, Metres, MetresPerSecond, Nanoseconds, Place, Position, Recording,
-    Refusal, Report, Seconds, Table,
+    ChebyshevModel, ClosestApproach, EVEN_TOLERANCE, Entry, Hertz, HertzPerSecond, LeapSeconds,
+    MOST_COORDINATES, MOST_ENTRIES, MOST_SAMPLES, MeansArea, Metres, MetresPerSecond, Nanoseconds,
+    Place, Position, Propagation, Recording, Refusal, Report, Seconds, Table,
 };
 use std::ops::Range;
 
@@ -27,6 +27,14 @@ const FALLING: Recording = Recording {
 
 /// The pass of some sample data, and its means.
 fn pass(sample: &Sample) -> (Result<Report, Refusal>, Vec<Nanoseconds>, Vec<Hertz>) {
+    pass_at(sample, TOLERANCE)
+}
+
+/// The same at another tolerance.
+fn pass_at(
+    sample: &Sample,
+    tolerance: Seconds,
+) -> (Result<Report, Refusal>, Vec<Nanoseconds>, Vec<Hertz>) {
     let count = sample.samples.len();
     let (mut instants, mut frequencies) = (vec![Nanoseconds(0); count], vec![Hertz(0.0); count]);
     let areas = MeansArea {
@@ -38,6 +46,7 @@ fn pass(sample: &Sample) -> (Result<Report, Refusal>, Vec<Nanoseconds>, Vec<Hert
         sample.recording(),
         sample.observer,
         sample.centre_frequency,
+        tolerance,
         areas,
     );
     (answer, instants, frequencies)
@@ -48,7 +57,7 @@ fn fit(sample: &Sample) -> Result<Report, Refusal> {
     let recording = sample.recording();
     let measured = orbit::estimate_measured_pca_time(recording)?;
     let (table, f0) = (sample.table(), sample.centre_frequency);
-    orbit::fit_satellite(table, recording, sample.observer, f0, measured)
+    orbit::fit_satellite(table, recording, sample.observer, f0, measured, TOLERANCE)
 }
 
 /// The sample data with these coordinates of the table alone.
@@ -176,9 +185,9 @@ fn inverse_row_after_row() {
 fn position_and_velocity() {
     let sample = Sample::load();
     let instant = sample.instants[MIDDLE_ROW];
-    let propagation = orbit::propagate_ecef(sample.table(), instant).unwrap();
+    let propagation = orbit::propagate_ecef(sample.table(), instant, TOLERANCE).unwrap();
     let motion = propagation.motion;
-    let model = orbit::get_chebyshev_model(sample.table(), instant).unwrap();
+    let model = orbit::get_chebyshev_model(sample.table(), instant, TOLERANCE).unwrap();
     assert_eq!(orbit::evaluate(&model, instant), Ok(motion));
     let time = |row: usize| Seconds(orbit::nearest(sample.instants[row].0) * 1e-9);
     assert_eq!(
@@ -198,7 +207,7 @@ fn position_and_velocity() {
 fn closest_approach() {
     let sample = Sample::load();
     let Nanoseconds(row) = sample.instants[MIDDLE_ROW];
-    let found = orbit::find_pca_time(sample.table(), sample.observer, Nanoseconds(row));
+    let found = orbit::find_pca_time(sample.table(), sample.observer, Nanoseconds(row), TOLERANCE);
     let expected = ClosestApproach {
         instant: Nanoseconds(row + 54 * SECOND),
         place: Place::Within,
@@ -222,9 +231,9 @@ fn place_of_a_propagation() {
     ];
     for (nanoseconds, place) in places {
         let instant = Nanoseconds(nanoseconds);
-        let propagation = orbit::propagate_ecef(sample.table(), instant).unwrap();
+        let propagation = orbit::propagate_ecef(sample.table(), instant, TOLERANCE).unwrap();
         assert_eq!(propagation.place, place, "{nanoseconds}");
-        let model = orbit::get_chebyshev_model(sample.table(), instant).unwrap();
+        let model = orbit::get_chebyshev_model(sample.table(), instant, TOLERANCE).unwrap();
         assert_eq!(orbit::evaluate(&model, instant), Ok(propagation.motion));
     }
 }
@@ -249,9 +258,9 @@ fn place_of_the_closest_approach_that_is_found() {
     ];
     for (about, nanoseconds, place) in places {
         let instant = Nanoseconds(nanoseconds);
-        let there = orbit::propagate_ecef(sample.table(), instant).unwrap();
+        let there = orbit::propagate_ecef(sample.table(), instant, TOLERANCE).unwrap();
         let (table, observer) = (sample.table(), there.motion.position);
-        let found = orbit::find_pca_time(table, observer, Nanoseconds(about));
+        let found = orbit::find_pca_time(table, observer, Nanoseconds(about), TOLERANCE);
         assert_eq!(found, Ok(ClosestApproach { instant, place }), "{about}");
     }
 }
@@ -295,7 +304,7 @@ fn pass_is_the_fit_of_the_means() {
     let measured = orbit::estimate_measured_pca_time(means).unwrap();
     assert_eq!((report.approach, report.fallback), (measured, false));
     let (table, f0) = (sample.table(), sample.centre_frequency);
-    let fit = orbit::fit_satellite(table, means, sample.observer, f0, measured);
+    let fit = orbit::fit_satellite(table, means, sample.observer, f0, measured, TOLERANCE);
     assert_eq!(fit, Ok(report));
 }
 
@@ -326,7 +335,14 @@ fn fit_repeats_the_instant_that_it_is_given() {
     let (table, f0) = (sample.table(), sample.centre_frequency);
     let row = sample.instants[MIDDLE_ROW];
     for measured in [row, Nanoseconds(row.0 + 1), sample.samples[0]] {
-        let fit = orbit::fit_satellite(table, sample.recording(), sample.observer, f0, measured);
+        let fit = orbit::fit_satellite(
+            table,
+            sample.recording(),
+            sample.observer,
+            f0,
+            measured,
+            TOLERANCE,
+        );
         let report = fit.unwrap();
         assert_eq!((report.approach, report.fallback), (measured, false));
     }
@@ -380,7 +396,7 @@ fn outside_or_within_and_without_a_position() {
         sample.samples[0] = Nanoseconds(first + seconds * SECOND);
         for report in [fit(&sample), pass(&sample).0].map(Result::unwrap) {
             let moved = Nanoseconds(sample.samples[0].0 - shift(&report));
-            let refused = orbit::propagate_ecef(sample.table(), moved);
+            let refused = orbit::propagate_ecef(sample.table(), moved, TOLERANCE);
             assert_eq!(refused, Err(Refusal::PivotTooSmall));
             assert_eq!(report.outside, expected, "{seconds}");
         }
@@ -407,11 +423,18 @@ fn outside_by_a_nanosecond() {
     ];
     for (nanoseconds, expected) in moved_to {
         let heard = Nanoseconds(nanoseconds - 15 * SECOND);
-        let there = orbit::propagate_ecef(sample.table(), heard).unwrap();
+        let there = orbit::propagate_ecef(sample.table(), heard, TOLERANCE).unwrap();
         sample.observer = there.motion.position;
         sample.samples = vec![heard];
         let (table, f0) = (sample.table(), sample.centre_frequency);
-        let fit = orbit::fit_satellite(table, sample.recording(), sample.observer, f0, heard);
+        let fit = orbit::fit_satellite(
+            table,
+            sample.recording(),
+            sample.observer,
+            f0,
+            heard,
+            TOLERANCE,
+        );
         for report in [fit, pass(&sample).0].map(Result::unwrap) {
             assert_eq!((report.clock_offset, report.count), (FIRST_SHIFT, 1));
             assert_eq!(report.outside, expected, "{nanoseconds}");
@@ -467,9 +490,248 @@ fn outside_by_the_offset_in_whole_microseconds() {
             |shift: fn(f64) -> i64| outside(&sample, means.instants, shift(report.clock_offset.0));
         assert_eq!(WRONG_SHIFTS.map(counted), wrong, "{nanoseconds}");
         let (table, f0) = (sample.table(), sample.centre_frequency);
-        let fit = orbit::fit_satellite(table, means, sample.observer, f0, report.approach);
+        let fit = orbit::fit_satellite(
+            table,
+            means,
+            sample.observer,
+            f0,
+            report.approach,
+            TOLERANCE,
+        );
         assert_eq!(fit, Ok(report));
     }
+}
+
+/// The middle row's instant.
+const MIDDLE: Nanoseconds = Nanoseconds((FIRST_SECOND + 60 * MIDDLE_ROW as i64) * SECOND);
+
+/// The answers of the entries that take a tolerance; those about an instant are about the middle row's.
+#[derive(Debug, PartialEq)]
+struct Answers {
+    model: Result<ChebyshevModel, Refusal>,
+    propagation: Result<Propagation, Refusal>,
+    closest: Result<ClosestApproach, Refusal>,
+    fit: Result<Report, Refusal>,
+    pass: (Result<Report, Refusal>, Vec<Nanoseconds>, Vec<Hertz>),
+}
+
+impl Answers {
+    fn of(sample: &Sample, tolerance: Seconds) -> Self {
+        let (table, recording) = (sample.table(), sample.recording());
+        let (observer, f0) = (sample.observer, sample.centre_frequency);
+        Answers {
+            model: orbit::get_chebyshev_model(table, MIDDLE, tolerance),
+            propagation: orbit::propagate_ecef(table, MIDDLE, tolerance),
+            closest: orbit::find_pca_time(table, observer, MIDDLE, tolerance),
+            fit: orbit::fit_satellite(table, recording, observer, f0, MIDDLE, tolerance),
+            pass: pass_at(sample, tolerance),
+        }
+    }
+
+    /// What each refuses by.
+    fn refusals(&self) -> [Option<Refusal>; 5] {
+        [
+            self.model.err(),
+            self.propagation.err(),
+            self.closest.err(),
+            self.fit.err(),
+            self.pass.0.err(),
+        ]
+    }
+
+    /// Whether the areas for the means are as they were lent.
+    fn no_means(&self) -> bool {
+        let (_, instants, frequencies) = &self.pass;
+        instants.iter().all(|&instant| instant == Nanoseconds(0))
+            && frequencies.iter().all(|&frequency| frequency == Hertz(0.0))
+    }
+}
+
+/// The sample data with a table of the same track whose gaps grow by 0.05 s each: in every window they are up to 0.2 s off their mean.
+fn with_growing_gaps() -> Sample {
+    let mut sample = Sample::load();
+    let earlier = |row: i64| row * (24 - row) * SECOND / 40;
+    let rows = (0..).zip(&sample.instants);
+    let instants: Vec<Nanoseconds> = rows
+        .map(|(row, instant)| Nanoseconds(instant.0 - earlier(row)))
+        .collect();
+    let position = |&instant: &Nanoseconds| {
+        let propagation = orbit::propagate_ecef(sample.table(), instant, TOLERANCE);
+        propagation.unwrap().motion.position
+    };
+    sample.positions = instants.iter().map(position).collect();
+    sample.instants = instants;
+    sample
+}
+
+/// How far a table's position at an instant is from another, in metres.
+fn off(table: Table, instant: Nanoseconds, tolerance: Seconds, position: Position) -> f64 {
+    let propagation = orbit::propagate_ecef(table, instant, tolerance).unwrap();
+    let model = orbit::get_chebyshev_model(table, instant, tolerance).unwrap();
+    assert_eq!(orbit::evaluate(&model, instant), Ok(propagation.motion));
+    let found = propagation.motion.position;
+    let apart = [0, 1, 2].map(|axis| found[axis].0 - position[axis].0);
+    orbit::sqrt(apart.iter().map(|x| x * x).sum())
+}
+
+/// The true positions are those of the orbit file, at its own instants. By their own instants all windows come within 0.03 m of them; taken
+/// as even, those of the rows with four before and five after are 3,649 to 3,654 m off.
+#[test]
+fn uneven_windows_by_their_own_instants() {
+    let (even, uneven) = (Sample::load(), with_growing_gaps());
+    for (row, (&instant, &position)) in even.instants.iter().zip(&even.positions).enumerate() {
+        assert!(off(uneven.table(), instant, TOLERANCE, position) < 0.1);
+        assert!(off(even.table(), instant, TOLERANCE, position) < 0.1);
+        if (4..=18).contains(&row) {
+            let as_even = off(uneven.table(), instant, EVEN_TOLERANCE, position);
+            assert!((3_600.0..3_700.0).contains(&as_even), "{row}: {as_even}");
+        }
+    }
+}
+
+/// Taken as even, the satellite is 0.48 s late: the closest approach is found a second later, and the clock offset is less by as much.
+#[test]
+fn approach_fit_and_pass_by_the_tolerance() {
+    let sample = with_growing_gaps();
+    let [fine, coarse] = [TOLERANCE, EVEN_TOLERANCE].map(|tolerance| {
+        let (table, observer) = (sample.table(), sample.observer);
+        let about = Nanoseconds(MIDDLE.0 + SECOND / 2);
+        let closest = orbit::find_pca_time(table, observer, about, tolerance);
+        let answers = Answers::of(&sample, tolerance);
+        let reports = [answers.fit, answers.pass.0].map(Result::unwrap);
+        let missed = |report: Report| report.clock_offset.0 - sample.known.clock_offset.0;
+        (closest.unwrap().instant.0 - about.0, reports.map(missed))
+    });
+    assert_eq!((fine.0, coarse.0), (53 * SECOND, 54 * SECOND));
+    assert!(fine.1.iter().all(|missed| missed.abs() < 0.005));
+    assert!(coarse.1.iter().all(|missed| (missed + 0.48).abs() < 0.01));
+}
+
+/// How far the gaps of the window about the middle row are off their mean at most, as the library works it out.
+fn farthest_gap(sample: &Sample) -> f64 {
+    let seconds = |row: usize| orbit::nearest(sample.instants[row].0) * 1e-9;
+    let first = MIDDLE_ROW - 4;
+    let mean = (seconds(first + 9) - seconds(first)) / 9.0;
+    let gaps = (first..first + 9).map(|row| seconds(row + 1) - seconds(row));
+    gaps.map(|gap| (gap - mean).abs()).fold(0.0, f64::max)
+}
+
+#[test]
+fn a_gap_off_by_the_tolerance_is_even_and_by_more_is_not() {
+    let sample = with_growing_gaps();
+    let farthest = farthest_gap(&sample);
+    assert!((0.199_999..0.200_001).contains(&farthest));
+    let model = |x| orbit::get_chebyshev_model(sample.table(), MIDDLE, Seconds(x)).unwrap();
+    assert_eq!(model(farthest), model(EVEN_TOLERANCE.0));
+    assert_eq!(model(farthest.next_down()), model(0.0));
+    assert_ne!(model(0.0), model(EVEN_TOLERANCE.0));
+    let motion = |x| orbit::propagate_ecef(sample.table(), MIDDLE, Seconds(x)).unwrap();
+    assert_eq!(motion(farthest), motion(EVEN_TOLERANCE.0));
+    assert_eq!(motion(farthest.next_down()), motion(0.0));
+    assert_ne!(motion(0.0), motion(EVEN_TOLERANCE.0));
+}
+
+/// The least double above zero.
+const LEAST: f64 = f64::from_bits(1);
+
+#[test]
+fn tolerances_not_finite_or_below_zero() {
+    let tolerances = [
+        f64::NAN,
+        -f64::NAN,
+        f64::INFINITY,
+        f64::NEG_INFINITY,
+        -LEAST,
+        -0.001,
+        f64::MIN,
+    ];
+    for sample in [Sample::load(), with_growing_gaps()] {
+        for tolerance in tolerances {
+            let answers = Answers::of(&sample, Seconds(tolerance));
+            assert_eq!(answers.refusals(), [Some(Refusal::ToleranceUnusable); 5]);
+            assert!(answers.no_means());
+        }
+    }
+    assert_eq!(Refusal::ToleranceUnusable.number(), 16);
+}
+
+#[test]
+fn any_other_tolerance_passes() {
+    for sample in [Sample::load(), with_growing_gaps()] {
+        let tolerances = [-0.0, 0.0, LEAST, f64::MAX];
+        let all = tolerances.map(|tolerance| Answers::of(&sample, Seconds(tolerance)));
+        for answers in &all {
+            assert_eq!(answers.refusals(), [None; 5]);
+            assert!(!answers.no_means());
+        }
+        assert_eq!(all[0], all[1]);
+    }
+}
+
+/// Sample data spoilt so, and what the entries of [`Answers`] then refuse by at a tolerance that passes.
+type Fault = (fn(&mut Sample), [Option<Refusal>; 5]);
+
+/// Faults that are found before that of a tolerance, and two that are found behind it.
+fn faults() -> [Fault; 9] {
+    use Refusal::*;
+    let of_all = |refusal| [Some(refusal); 5];
+    let of_three = |refusal| [None, None, Some(refusal), Some(refusal), Some(refusal)];
+    let of_two = |refusal| [None, None, None, Some(refusal), Some(refusal)];
+    [
+        (|s| s.instants.truncate(9), of_all(CoordinateCount)),
+        (|s| s.frequencies.truncate(9), of_two(SampleCount)),
+        (
+            |s| s.instants[23] = Nanoseconds(i64::MAX),
+            of_all(InstantBeyondLimit),
+        ),
+        (|s| s.instants.swap(3, 4), of_all(InstantsNotRising)),
+        (
+            |s| s.positions[5] = [Metres(0.0); 3],
+            of_all(PositionBeyondLimits),
+        ),
+        (
+            |s| s.observer = [Metres(0.0); 3],
+            of_three(PositionBeyondLimits),
+        ),
+        (
+            |s| s.centre_frequency = Hertz(0.0),
+            of_two(FrequencyUnusable),
+        ),
+        (
+            |s| s.instants[MIDDLE_ROW - 1] = Nanoseconds(MIDDLE.0 - 1),
+            [Some(PivotTooSmall), Some(PivotTooSmall), None, None, None],
+        ),
+        (|s| s.frequencies[5] = Hertz(1e300), of_two(NoShiftFits)),
+    ]
+}
+
+/// The check of the tolerance comes behind 7, and before 8 and 10. By a tolerance below zero every window is uneven, by NaN none.
+#[test]
+fn order_of_the_refusal_of_a_tolerance() {
+    use Refusal::*;
+    for (spoil, refusals) in faults() {
+        let mut sample = Sample::load();
+        spoil(&mut sample);
+        assert_eq!(Answers::of(&sample, TOLERANCE).refusals(), refusals);
+        let expected = refusals.map(|refusal| match refusal {
+            None | Some(PivotTooSmall) | Some(NoShiftFits) => Some(ToleranceUnusable),
+            before => before,
+        });
+        for tolerance in [f64::NAN, -LEAST] {
+            let refused = Answers::of(&sample, Seconds(tolerance));
+            assert_eq!(refused.refusals(), expected);
+            assert!(refused.no_means());
+        }
+    }
+    let sample = Sample::load();
+    let short = MeansArea {
+        instants: &mut [],
+        frequencies: &mut [],
+    };
+    let (observer, f0) = (sample.observer, sample.centre_frequency);
+    let (table, recording) = (sample.table(), sample.recording());
+    let refused = orbit::pass(table, recording, observer, f0, Seconds(f64::NAN), short);
+    assert_eq!(refused, Err(AreaTooShort));
 }
 
 #[test]
@@ -702,7 +964,7 @@ fn refusals_of_samples(count: usize) -> [Option<Refusal>; 5] {
         orbit::downsample_data(recording, areas).err(),
         orbit::estimate_measured_pca_time(recording).err(),
         orbit::steepest_slope(recording).err(),
-        orbit::fit_satellite(table, recording, observer, f0, sample.samples[0]).err(),
+        orbit::fit_satellite(table, recording, observer, f0, sample.samples[0], TOLERANCE).err(),
         pass(&sample).0.err(),
     ]
 }
@@ -724,7 +986,7 @@ fn the_most_coordinates_pass_and_one_more_is_refused() {
             instants: &instants[..count],
             positions: &positions[..count],
         };
-        orbit::propagate_ecef(table, Nanoseconds(0)).err()
+        orbit::propagate_ecef(table, Nanoseconds(0), TOLERANCE).err()
     };
     assert_eq!(propagated(MOST_COORDINATES), None);
     let refused = Some(Refusal::CoordinateCount);
@@ -738,7 +1000,7 @@ fn empty_slices_are_refused() {
         instants: &[],
         positions: &nothing,
     };
-    let refused = orbit::propagate_ecef(table, Nanoseconds(0));
+    let refused = orbit::propagate_ecef(table, Nanoseconds(0), TOLERANCE);
     assert_eq!(refused, Err(Refusal::CoordinateCount));
     let recording = Recording {
         instants: &[],
