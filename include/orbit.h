@@ -16,7 +16,7 @@
  * A position goes by a window of ten coordinates about its instant. The tolerance says which windows are even: where none of the nine gaps
  * is off their mean by more than the tolerance, the window is taken as exactly evenly spaced; else its own instants are used. Give 0.001 s
  * for a file whose seller promises a millisecond. With ORBIT_EVEN_TOLERANCE, which is document 01's 1.0 s and was the only value before, a
- * low satellite can be taken kilometres off its track.
+ * window whose gaps are up to a second off is taken as even, and a low satellite kilometres off its track.
  *
  * Refusals. The checks are made in this order, but 16 behind 7 and before 8, and the first that fails gives the number. Refusals 11 to 13
  * are of orbit_read_sp3 alone, 14 and 15 of orbit_fleet_board alone, and neither of these two makes any of the others.
@@ -79,7 +79,8 @@ typedef struct { double metres_per_second; } orbit_metres_per_second;
  * (refusal 14). */
 enum { ORBIT_MOST_COORDINATES = 4096, ORBIT_MOST_SAMPLES = 1312, ORBIT_MOST_ENTRIES = 64 };
 
-/* The tolerance of an even window in document 01: its gaps may be up to 1.0 s off their mean. No function takes it by itself. */
+/* The tolerance of an even window in document 01: its gaps may be up to 1.0 s off their mean. No function uses it unless it is given. In C it
+ * is an object and no constant expression, so a static of yours is set by {1.0}. */
 static const orbit_seconds ORBIT_EVEN_TOLERANCE = {1.0};
 
 /* Where an instant lies: before the first coordinate of a table, from the first to the last, both included, or after the last.

@@ -51,7 +51,7 @@ pub type Spacing = fn(&mut Random, usize) -> Vec<i64>;
 pub const SPACINGS: [Spacing; 10] = [
     even,
     nearly_even,
-    at_the_tolerance,
+    at_one_second,
     one_gap_longer,
     jittered,
     two_rates,
@@ -204,22 +204,22 @@ fn even(random: &mut Random, rows: usize) -> Vec<i64> {
     summed(rows, || gap)
 }
 
-/// Each row moved, but no gap by more than the second that an even window allows.
+/// Each row moved, but no gap by more than the second that an even window of the Rust's allows.
 fn nearly_even(random: &mut Random, rows: usize) -> Vec<i64> {
     moved(random, rows, |random, _| {
         random.count(-SECOND * 2 / 5, SECOND * 2 / 5)
     })
 }
 
-/// Some rows moved by just about the second that an even window allows.
-fn at_the_tolerance(random: &mut Random, rows: usize) -> Vec<i64> {
+/// Some rows moved by just about the second that an even window of the Rust's allows.
+fn at_one_second(random: &mut Random, rows: usize) -> Vec<i64> {
     moved(random, rows, |random, _| {
         let near = SECOND + random.pick(&[0, 0, 1, -1, 100, -100, 500, -500, 5000, -5000]);
         random.pick(&[0, 0, 0, 0, 0, 0, 0, 0, near, -near])
     })
 }
 
-/// In every window one gap is longer than the mean by the second that an even window allows, or by just about it.
+/// In every window one gap is longer than the mean by the second that an even window of the Rust's allows, or by just about it.
 fn one_gap_longer(random: &mut Random, rows: usize) -> Vec<i64> {
     let usual = usual_gap(random);
     let odd = random.count(SECOND, usual);
@@ -228,7 +228,7 @@ fn one_gap_longer(random: &mut Random, rows: usize) -> Vec<i64> {
     with_longer_gaps(rows, gap, longer, random.below(9))
 }
 
-/// Always the same gap, but every ninth one is longer; `before` are those before the first such one, counted from behind.
+/// Always the same gap, but every ninth one is longer; the first longer one is number 9 − `before`.
 pub(super) fn with_longer_gaps(rows: usize, gap: i64, longer: i64, before: usize) -> Vec<i64> {
     let mut k = before;
     summed(rows, || {

@@ -10,12 +10,12 @@ use crate::calls::Call;
 use std::array::from_fn;
 
 /// The tolerance that the gaps of no table come near.
-pub const GREATEST: f64 = 1e300;
+pub const OUT_OF_REACH: f64 = 1e300;
 
 /// The tolerances.
 pub fn values() -> [f64; 8] {
     let least = power_of_two(-1074);
-    [0.0, -0.0, 1e-9, 0.001, 0.5, 30.0, GREATEST, least]
+    [0.0, -0.0, 1e-9, 0.001, 0.5, 30.0, OUT_OF_REACH, least]
 }
 
 /// How much more or less than a tolerance the gaps are off, in nanoseconds.

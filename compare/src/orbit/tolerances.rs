@@ -12,7 +12,7 @@ use compare::inputs::closest;
 use compare::inputs::passes::{self, Size};
 use compare::inputs::random::Random;
 use compare::inputs::tables::{self, SPACINGS, Table};
-use compare::inputs::tolerances::{self, GREATEST};
+use compare::inputs::tolerances::{self, OUT_OF_REACH};
 use compare::reference::{self, Orbit, TOLERANCE};
 use compare::words::Word;
 
@@ -85,7 +85,7 @@ fn hold_to_window(entry: Entry, call: &Call, expected: &Answer) {
     }
     for tolerance in alike {
         let other = expected::answer(entry, &call.at(tolerance));
-        assert!(*expected == other, "at {tolerance} it is another window");
+        assert!(*expected == other, "at {tolerance:?} it is another window");
     }
 }
 
@@ -128,7 +128,10 @@ fn compare_about(total: &mut Total) {
     for tally in tallies {
         tally.must_have_noted(&WINDOWS);
         tally.must_have_noted(&[ANOTHER]);
-        for tolerance in tolerances::values().into_iter().filter(|&x| x < GREATEST) {
+        for tolerance in tolerances::values()
+            .into_iter()
+            .filter(|&x| x < OUT_OF_REACH)
+        {
             let just = ["even", "uneven"].map(|even| just(even, tolerance));
             tally.must_have_noted(&just.each_ref().map(String::as_str));
         }

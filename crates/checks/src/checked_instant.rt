@@ -1,10 +1,10 @@
-// An instant that its check passes.
+// An instant that passed its check.
 ghost use Rattle.std.specs.Prelude.{◌≤◌, nat_abs};
 ghost use Rattle.checks.specs.Limits.{farthest_instant};
 
 use units::Nanoseconds;
 
-// An instant that check 4 passes: no farther from 1970 than that allows, either way.
+// An instant that passed check 4: no farther from 1970 than that allows, either way.
 #[derive(Clone, Copy)]
 pub struct CheckedInstant {
     pub instant: Nanoseconds,

@@ -33,21 +33,21 @@ outside_cases = (refl, refl)
 -- ---- request 2.7
 
 -- a time in seconds
-abbrev by : Float → Seconds
-by x = record { 0 = x }
+abbrev seconds : Float → Seconds
+seconds x = record { 0 = x }
 
 -- whole seconds
 abbrev whole : ℕ → Float
 whole n = fin false n (pos 0)
 
--- "a tolerance not finite or below zero": NaN, either infinity, and the least number below zero; not −0.0, 0.0 or the least number above it
-pub tolerance_cases : (no_tolerance (by nan) ≡ true)
-    × (no_tolerance (by (inf false)) ≡ true)
-    × (no_tolerance (by (inf true)) ≡ true)
-    × (no_tolerance (by (fin true 1 (negsuc 1073))) ≡ true)
-    × (no_tolerance (by minus_zero) ≡ false)
-    × (no_tolerance (by nought) ≡ false)
-    × (no_tolerance (by (fin false 1 (negsuc 1073))) ≡ false)
+-- "a tolerance not finite or below zero": NaN, either infinity, and of the numbers nearest zero the one below it; not −0.0, 0.0 or the one above it
+pub tolerance_cases : (no_tolerance (seconds nan) ≡ true)
+    × (no_tolerance (seconds (inf false)) ≡ true)
+    × (no_tolerance (seconds (inf true)) ≡ true)
+    × (no_tolerance (seconds (fin true 1 (negsuc 1073))) ≡ true)
+    × (no_tolerance (seconds minus_zero) ≡ false)
+    × (no_tolerance (seconds nought) ≡ false)
+    × (no_tolerance (seconds (fin false 1 (negsuc 1073))) ≡ false)
 unfolding not_finite lt
 tolerance_cases = (refl, refl, refl, refl, refl, refl, refl)
 
@@ -59,10 +59,10 @@ abbrev one_late : List Float
 one_late = map whole (0 ∷ 61 ∷ 120 ∷ 180 ∷ 240 ∷ 300 ∷ 360 ∷ 420 ∷ 480 ∷ 540 ∷ [])
 
 -- even at a tolerance of either zero; even at 1.0, not at the next double below it, nor at a millisecond
-pub window_cases : (uneven (by nought) each_minute ≡ false)
-    × (uneven (by minus_zero) each_minute ≡ false)
-    × (uneven (by one) one_late ≡ false)
-    × (uneven (by (fin false 9007199254740991 (negsuc 52))) one_late ≡ true)
-    × (uneven (by thousandth) one_late ≡ true)
+pub window_cases : (uneven (seconds nought) each_minute ≡ false)
+    × (uneven (seconds minus_zero) each_minute ≡ false)
+    × (uneven (seconds one) one_late ≡ false)
+    × (uneven (seconds (fin false 9007199254740991 (negsuc 52))) one_late ≡ true)
+    × (uneven (seconds thousandth) one_late ≡ true)
 unfolding list_of magnitude_of round lt sub div
 window_cases = (refl, refl, refl, refl, refl)

@@ -20,7 +20,7 @@ use Rattle.orbit.specs.declared.propagation.Motion.{Motion}
 use Rattle.orbit.specs.Propagation.{propagated}
 use Rattle.orbit.specs.Closest.{squared, squared_range}
 
--- where the receiver stands, the centre frequency, and how far a gap of an even window may be off the mean gap
+-- the settings by their parts
 abbrev pub settings_of : Observer → Hertz → Seconds → Settings
 settings_of observer f0 tolerance = record { observer = observer; f0 = f0; tolerance = tolerance }
 

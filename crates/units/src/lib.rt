@@ -1,8 +1,7 @@
 // The units of the ship clock, each a type of its own with one field, so that kilometres cannot stand where metres are meant;
 // the records of three, which are three types and not one with a parameter, so that an observer cannot stand where a position is meant; the single
-// numbers of a fit; spans of
-// time and the speed of light by name. An ECEF coordinate is earth-centred and earth-fixed. The units have C's
-// layout, since the exports take them.
+// numbers that fit and pass share; spans of time and the speed of light by name. An ECEF coordinate is earth-centred and earth-fixed. The units have
+// C's layout, since the exports take them.
 #![tactic(auto)]
 
 // A length in metres.
@@ -54,8 +53,8 @@ pub struct Observer {
     pub z: Metres,
 }
 
-// What a fit and a pass are given in single numbers: where the receiver stands, the centre frequency, and how far a gap of an even window may be off
-// the mean gap.
+// The single numbers that fit and pass both take: where the receiver stands, in metres, the centre frequency, in hertz, and by how many seconds a gap of
+// an even window may be off the mean gap.
 #[derive(Clone, Copy)]
 pub struct Settings {
     pub observer: Observer,

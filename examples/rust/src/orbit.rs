@@ -7,7 +7,8 @@
 //! A position goes by a window of ten coordinates about its instant. The tolerance says which windows are even: where none of the
 //! nine gaps is off their mean by more than the tolerance, the window is taken as exactly evenly spaced; else its own instants are
 //! used. Give `Seconds(0.001)` for a file whose seller promises a millisecond. With [`EVEN_TOLERANCE`], which is document 01's 1.0 s
-//! and was the only value before, a low satellite can be taken kilometres off its track.
+//! and was the only value before, a window whose gaps are up to a second off is taken as even, and a low satellite kilometres off
+//! its track.
 
 mod refusal;
 
@@ -59,7 +60,8 @@ pub const MOST_SAMPLES: usize = 1312;
 /// The most entries that a board may have (refusal 14).
 pub const MOST_ENTRIES: usize = 64;
 
-/// The tolerance of an even window in document 01: its gaps may be up to 1.0 s off their mean. No function takes it by itself.
+/// The tolerance of an even window in document 01: its gaps may be up to 1.0 s off their mean. No function uses it unless
+/// it is given.
 pub const EVEN_TOLERANCE: Seconds = Seconds(1.0);
 
 /// x, y and z, earth-centred and earth-fixed.

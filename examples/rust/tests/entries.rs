@@ -580,11 +580,11 @@ fn off(table: Table, instant: Nanoseconds, tolerance: Seconds, position: Positio
 fn uneven_windows_by_their_own_instants() {
     let (even, uneven) = (Sample::load(), with_growing_gaps());
     for (row, (&instant, &position)) in even.instants.iter().zip(&even.positions).enumerate() {
-        assert!(off(uneven.table(), instant, TOLERANCE, position) < 0.1);
-        assert!(off(even.table(), instant, TOLERANCE, position) < 0.1);
+        assert!(off(uneven.table(), instant, TOLERANCE, position) < 0.03);
+        assert!(off(even.table(), instant, TOLERANCE, position) < 0.03);
         if (4..=18).contains(&row) {
             let as_even = off(uneven.table(), instant, EVEN_TOLERANCE, position);
-            assert!((3_600.0..3_700.0).contains(&as_even), "{row}: {as_even}");
+            assert!((3_649.0..3_654.0).contains(&as_even), "{row}: {as_even}");
         }
     }
 }
