@@ -1,4 +1,5 @@
-// Checks 1 to 7 of document 01 and 16 of document 02, each one function proved equal to its definition, and the first that fails for each entry; what passed is a type.
+// Checks 1 to 7 of document 01 and 16 of document 02, each one function proved equal to its definition, and the first that fails for each entry; what
+// passed is a type.
 #![tactic(auto)]
 
 mod checked_instant;
