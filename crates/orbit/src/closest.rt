@@ -148,7 +148,7 @@ impl TabulatedOrbit<'_> {
     }
 }
 
-// The instant of the closest approach to the observer about an instant, and where that instant lies.
+// The instant of the closest approach to the observer about an instant, and where that instant lies. The tolerance of an even window is in seconds.
 pub fn find_pca_time(
     instants: &[i64],
     positions: &[f64],

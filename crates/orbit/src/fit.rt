@@ -57,7 +57,7 @@ impl<'t, 'r> Fitting<'t, 'r> {
     }
 }
 
-// Clock offset, frequency offset and RMSE of samples, by the table and the instant of the measured approach, which the report repeats.
+// Clock offset, frequency offset and RMSE of samples, by the table, the settings and the instant of the measured approach, which the report repeats.
 pub fn fit_satellite(
     instants: &[i64],
     positions: &[f64],

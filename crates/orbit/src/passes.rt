@@ -35,7 +35,7 @@ impl<'t, 'r> Fitting<'t, 'r> {
     }
 }
 
-// Clock offset, frequency offset and RMSE of a recording, by the table, and the instant that they were taken about; the means stay in the two areas.
+// Clock offset, frequency offset and RMSE of a recording, by table and settings, and the instant that they were taken about; the means stay in the two areas.
 pub fn pass(
     instants: &[i64],
     positions: &[f64],

@@ -60,7 +60,7 @@ pub fn evaluate(orbit: ChebyshevOrbit, instant: Nanoseconds) -> Result<Motion, R
     Ok(orbit.motion_at(instant))
 }
 
-// Position and velocity by a table at an instant, extrapolated outside it, and where the instant lies.
+// Position and velocity by a table at an instant, extrapolated outside it, and where the instant lies. The tolerance of an even window is in seconds.
 pub fn propagate_ecef(
     instants: &[i64],
     positions: &[f64],

@@ -160,7 +160,7 @@ impl Window<'_> {
     }
 }
 
-// The Chebyshev model of the window about an instant.
+// The Chebyshev model of the window about an instant, which is even where no gap is off the mean gap by more than the tolerance, in seconds.
 pub fn get_chebyshev_model(
     instants: &[i64],
     positions: &[f64],

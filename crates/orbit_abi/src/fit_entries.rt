@@ -44,7 +44,8 @@ fn report_into(
 }
 
 // Clock offset (seconds), frequency offset and RMSE (hertz) of samples about the instant of the measured approach, how many samples there are, and
-// that instant (nanoseconds) again, which never is the fallback; and how many of the samples, moved by the clock offset, lie outside the table.
+// that instant (nanoseconds) again, which never is the fallback; and how many of the samples, moved by the clock offset, lie outside the table. The
+// tolerance of an even window is in seconds.
 #[unsafe(no_mangle)]
 pub extern "C" fn orbit_fit_satellite(
     instants: &[i64],
@@ -105,7 +106,8 @@ pub extern "C" fn orbit_fit_satellite(
 
 // Clock offset (seconds), frequency offset and RMSE (hertz) of a recording's one-second means, how many means there are, and the instant (nanoseconds)
 // that the offset was taken about, with whether it is the fallback, the middle mean's (1 yes, 0 no); and how many of the means, moved by the clock
-// offset, lie outside the table. The means go to the front of their two areas, and stay there under refusal 10.
+// offset, lie outside the table. The means go to the front of their two areas, and stay there under refusal 10. The tolerance of an even window is in
+// seconds.
 #[unsafe(no_mangle)]
 pub extern "C" fn orbit_pass(
     instants: &[i64],

@@ -47,7 +47,7 @@ fn model_of(numbers: &[f64; 32]) -> ChebyshevOrbit
     }
 }
 
-// The model of the window about an instant: t0, t9, cx, cy, cz.
+// The model of the window about an instant: t0, t9, cx, cy, cz. The tolerance of an even window is in seconds.
 #[unsafe(no_mangle)]
 pub extern "C" fn orbit_get_chebyshev_model(
     instants: &[i64],
@@ -97,7 +97,7 @@ pub extern "C" fn orbit_evaluate(model: &[f64; 32], instant: Nanoseconds, out: &
 }
 
 // Position (metres) and velocity (metres for each second) by a table at an instant: x, y, z each; and where the instant lies (0 before the first
-// coordinate, 1 from the first to the last, 2 after the last).
+// coordinate, 1 from the first to the last, 2 after the last). The tolerance of an even window is in seconds.
 #[unsafe(no_mangle)]
 pub extern "C" fn orbit_propagate_ecef(
     instants: &[i64],
@@ -119,7 +119,7 @@ pub extern "C" fn orbit_propagate_ecef(
 }
 
 // The instant in nanoseconds of the closest approach to an observer about an instant, and where it lies (0 before the first coordinate, 1 from the
-// first to the last, 2 after the last).
+// first to the last, 2 after the last). The tolerance of an even window is in seconds.
 #[unsafe(no_mangle)]
 pub extern "C" fn orbit_find_pca_time(
     instants: &[i64],
