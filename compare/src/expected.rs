@@ -5,7 +5,7 @@ use crate::calls::{Call, Entry, Part};
 use crate::checks;
 use crate::inputs::tables::Table;
 use crate::place;
-use crate::reference::{self, Measured, Orbit, Report, Samples};
+use crate::reference::{self, Measured, Report, Samples, TabulatedOrbit};
 use crate::words::Word;
 
 /// The refusal where the Rust finds no inverse.
@@ -53,7 +53,7 @@ fn rust_answer(entry: Entry, call: &Call) -> Answer {
 }
 
 /// What is asked of the call's table at its tolerance.
-fn asked<A>(call: &Call, ask: impl FnOnce(&dyn Orbit) -> A) -> A {
+fn asked<A>(call: &Call, ask: impl FnOnce(&dyn TabulatedOrbit) -> A) -> A {
     reference::at(call.tolerance, &call.table, ask)
 }
 

@@ -15,7 +15,7 @@ use compare::expected::FALLBACK;
 use compare::inputs::approaches;
 use compare::inputs::passes::{self, Size};
 use compare::inputs::random::Random;
-use compare::reference;
+use compare::reference::{self, TabulatedOrbit};
 use std::hint::black_box;
 
 /// How many calls of each kind.
@@ -196,7 +196,7 @@ fn time_fit(samples: usize, uneven: bool) -> Row {
         name,
         &[()],
         |()| ours::write_fit(&call, black_box(&mut places)),
-        |()| reference::fit(&orbit, &samples, call.observer, call.centre, measured),
+        |()| orbit.fit(&samples, call.observer, call.centre, measured),
     )
 }
 

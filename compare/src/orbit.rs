@@ -17,7 +17,7 @@ use compare::inputs::orbits::Orbit;
 use compare::inputs::random::Random;
 use compare::inputs::tables::{self, PRESENT, SECOND, SPACINGS, Spacing, Table};
 use compare::inputs::{doubles, polynomials};
-use compare::reference::{self, OrbitModel, TOLERANCE};
+use compare::reference::{self, OrbitModel, TOLERANCE, TabulatedOrbit};
 use compare::words::Word;
 use std::hint::black_box;
 
@@ -272,7 +272,7 @@ fn time_propagation(rows: usize, uneven: bool) -> Row {
             let places = black_box((&mut motion, &mut place));
             ours::write_propagation(&table, n, TOLERANCE, places.0, places.1)
         },
-        |&(_, instant)| reference::propagate(&orbit, instant),
+        |&(_, instant)| orbit.propagate(instant),
     )
 }
 
@@ -305,6 +305,6 @@ fn time_closest(uneven: bool) -> Row {
             let places = black_box((&mut found, &mut place));
             ours::write_closest(call, places.0, places.1)
         },
-        |(call, orbit)| reference::closest(orbit, call.observer, reference::instant(call.instant)),
+        |(call, orbit)| orbit.closest(call.observer, reference::instant(call.instant)),
     )
 }

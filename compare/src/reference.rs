@@ -93,7 +93,7 @@ pub type Report = (f64, f64, f64);
 pub const TOLERANCE: f64 = 1.0;
 
 /// What is asked of a table at a tolerance: at the Rust's own the unchanged text decides, at any other the changed one.
-pub fn at<A>(tolerance: f64, table: &Table, ask: impl FnOnce(&dyn Orbit) -> A) -> A {
+pub fn at<A>(tolerance: f64, table: &Table, ask: impl FnOnce(&dyn TabulatedOrbit) -> A) -> A {
     if tolerance.to_bits() == TOLERANCE.to_bits() {
         ask(&orbit(table))
     } else {
@@ -102,7 +102,7 @@ pub fn at<A>(tolerance: f64, table: &Table, ask: impl FnOnce(&dyn Orbit) -> A) -
 }
 
 /// A table as one of the two texts takes it, and what that text answers.
-pub trait Orbit {
+pub trait TabulatedOrbit {
     /// The 32 numbers of the model of the window about an instant, or nothing where it has no inverse.
     fn model(&self, instant: DateTime<Utc>) -> Option<[f64; 32]>;
 
@@ -204,7 +204,7 @@ pub fn measured(means: &Samples) -> Measured {
 /// The means, then the fit on them about the measured approach.
 #[inline(never)]
 pub fn pass(
-    orbit: &dyn Orbit,
+    orbit: &dyn TabulatedOrbit,
     samples: &Samples,
     observer: [f64; 3],
     centre: f64,

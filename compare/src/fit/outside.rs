@@ -8,7 +8,7 @@ use compare::inputs::integers::INSTANT_LIMIT;
 use compare::inputs::outside::{self, AT_THE_ENDS};
 use compare::inputs::random::Random;
 use compare::place::{self, AFTER, BEFORE, Reported};
-use compare::reference;
+use compare::reference::{self, TabulatedOrbit};
 
 /// How many calls of each kind.
 const CALLS: usize = 50;
@@ -80,7 +80,7 @@ fn note_places(tally: &mut Tally, call: &Call, moved: &[i64]) {
     let beyond = moved.iter().any(|n| n.abs() > INSTANT_LIMIT);
     tally.note_if("moved past the range of an instant", beyond);
     let orbit = reference::orbit(&call.table);
-    let lost = |&n: &i64| reference::propagate(&orbit, reference::instant(n)).is_none();
+    let lost = |&n: &i64| orbit.propagate(reference::instant(n)).is_none();
     let mut outside = moved.iter().filter(|&&n| place::outside(table, &[n]) == 1);
     tally.note_if("outside without a position", outside.any(lost));
 }

@@ -9,7 +9,7 @@ use super::tables::{self, SECOND, Table};
 use crate::calls::{Call, Entry};
 use crate::expected;
 use crate::place::{self, Reported};
-use crate::reference;
+use crate::reference::{self, TabulatedOrbit};
 
 /// Draws a call of the fit or of the pass; some kinds are made with the shift that the Rust reports of another call.
 pub type Kind = fn(&mut Random, Entry) -> Call;
@@ -94,7 +94,7 @@ pub fn low(random: &mut Random) -> (Orbit, Table) {
 /// A satellite that is overhead at an instant; the one that is given is up to 50 minutes away, a whole number of seconds.
 pub fn overhead_at(random: &mut Random, table: Table, closest: i64) -> Call {
     let orbit = reference::orbit(&table);
-    let motion = reference::propagate(&orbit, reference::instant(closest));
+    let motion = orbit.propagate(reference::instant(closest));
     let (place, _) = motion.expect("the table has no refused window");
     let away = random.count(300, 2990) * SECOND;
     let later = closest + away <= INSTANT_LIMIT;

@@ -6,7 +6,7 @@ use super::random::Random;
 use super::recordings::{self, FREQUENCIES, INSTANTS, Recording};
 use super::tables::{self, PRESENT, SECOND, Table};
 use crate::calls::Call;
-use crate::reference;
+use crate::reference::{self, TabulatedOrbit};
 
 /// The speed of light, in metres for each second.
 const LIGHT: f64 = 299_792_458.0;
@@ -102,7 +102,7 @@ impl Scene {
     pub fn heard(&self, truly: &[i64], late: i64, centre: f64) -> Recording {
         let orbit = reference::orbit(&self.table);
         let frequencies = truly.iter().map(|&n| {
-            let motion = reference::propagate(&orbit, reference::instant(n));
+            let motion = orbit.propagate(reference::instant(n));
             motion.map_or(centre, |motion| received(motion, self.observer, centre))
         });
         Recording {
@@ -135,7 +135,7 @@ impl Scene {
 /// The instant of the closest approach about an instant, as the Rust finds it.
 pub fn closest_to(table: &Table, observer: [f64; 3], instant: i64) -> i64 {
     let orbit = reference::orbit(table);
-    let found = reference::closest(&orbit, observer, reference::instant(instant));
+    let found = orbit.closest(observer, reference::instant(instant));
     reference::nanoseconds(found.expect("the Rust always finds one"))
 }
 
@@ -359,7 +359,7 @@ pub fn through_the_observer(random: &mut Random, size: Size) -> Call {
     let uneven = random.one_in(2);
     let mut scene = Scene::draw(random, uneven, size.rows);
     let orbit = reference::orbit(&scene.table);
-    let motion = reference::propagate(&orbit, reference::instant(scene.passing));
+    let motion = orbit.propagate(reference::instant(scene.passing));
     scene.observer = motion.expect("the table has no refused window").0;
     let centre = centre(random);
     let recording = scene.heard(&about(scene.passing, size.samples, SECOND), 0, centre);

@@ -13,7 +13,7 @@ use compare::inputs::passes::{self, Size};
 use compare::inputs::random::Random;
 use compare::inputs::tables::{self, SPACINGS, Table};
 use compare::inputs::tolerances::{self, OUT_OF_REACH};
-use compare::reference::{self, Orbit, TOLERANCE};
+use compare::reference::{self, TOLERANCE, TabulatedOrbit};
 use compare::words::Word;
 
 /// How many tables of each spacing, for each tolerance; each is asked for twelve instants.
@@ -253,7 +253,7 @@ fn compare_texts(total: &mut Total) {
 }
 
 /// What both texts answer to one question about the call's table.
-fn compare_text(tally: &mut Tally, call: &Call, ask: impl Fn(&dyn Orbit) -> Vec<Word>) {
+fn compare_text(tally: &mut Tally, call: &Call, ask: impl Fn(&dyn TabulatedOrbit) -> Vec<Word>) {
     let changed = reference::by_the_changed_text(TOLERANCE, &call.table, &ask);
     let unchanged = ask(&reference::orbit(&call.table));
     tally.record(changed == unchanged, || {
@@ -263,7 +263,7 @@ fn compare_text(tally: &mut Tally, call: &Call, ask: impl Fn(&dyn Orbit) -> Vec<
 }
 
 /// The numbers of the model, then position and velocity; none where the window has no inverse.
-fn motion_words(orbit: &dyn Orbit, call: &Call) -> Vec<Word> {
+fn motion_words(orbit: &dyn TabulatedOrbit, call: &Call) -> Vec<Word> {
     let instant = reference::instant(call.instant);
     let mut words = Vec::new();
     if let Some(model) = orbit.model(instant) {
@@ -277,14 +277,14 @@ fn motion_words(orbit: &dyn Orbit, call: &Call) -> Vec<Word> {
 }
 
 /// The instant of the closest approach.
-fn closest_words(orbit: &dyn Orbit, call: &Call) -> Vec<Word> {
+fn closest_words(orbit: &dyn TabulatedOrbit, call: &Call) -> Vec<Word> {
     let found = orbit.closest(call.observer, reference::instant(call.instant));
     let found = found.map(reference::nanoseconds);
     found.map(Word::Whole).into_iter().collect()
 }
 
 /// The three doubles of a fit.
-fn fit_words(orbit: &dyn Orbit, call: &Call) -> Vec<Word> {
+fn fit_words(orbit: &dyn TabulatedOrbit, call: &Call) -> Vec<Word> {
     let samples = reference::samples(&call.recording);
     let measured = reference::instant(call.instant);
     let report = orbit.fit(&samples, call.observer, call.centre, measured);

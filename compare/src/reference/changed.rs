@@ -4,7 +4,7 @@
 #![allow(dead_code)]
 
 use super::{FromNaiveUtcAndOffset, TimestampNanosOpt};
-use super::{Motion, Orbit, Report, Samples, instant};
+use super::{Motion, Report, Samples, TabulatedOrbit, instant};
 use crate::inputs::tables::Table;
 use chrono::{DateTime, Utc};
 use std::cell::Cell;
@@ -24,7 +24,7 @@ fn tolerance_in_use() -> f64 {
 }
 
 /// What is asked of a table at any tolerance.
-pub fn at<A>(tolerance: f64, table: &Table, ask: impl FnOnce(&dyn Orbit) -> A) -> A {
+pub fn at<A>(tolerance: f64, table: &Table, ask: impl FnOnce(&dyn TabulatedOrbit) -> A) -> A {
     IN_USE.set(Some(tolerance));
     let answer = ask(&orbit(table));
     IN_USE.set(None);

@@ -32,47 +32,22 @@ pub fn model(orbit: &OrbitModel, instant: DateTime<Utc>) -> Option<ChebyshevOrbi
     orbit.get_chebyshev_model(instant)
 }
 
-/// Position and velocity by a table, or nothing where its window has no inverse.
-#[inline(never)]
-pub fn propagate(orbit: &OrbitModel, instant: DateTime<Utc>) -> Option<Motion> {
-    orbit.propagate_ecef(instant)
-}
-
-/// The instant of the closest approach about an instant.
-#[inline(never)]
-pub fn closest(
-    orbit: &OrbitModel,
-    observer: [f64; 3],
-    instant: DateTime<Utc>,
-) -> Option<DateTime<Utc>> {
-    find_pca_time(orbit, observer, instant)
-}
-
-/// The fit's report, or nothing where no candidate is usable.
-#[inline(never)]
-pub fn fit(
-    orbit: &OrbitModel,
-    samples: &Samples,
-    observer: [f64; 3],
-    centre: f64,
-    measured: DateTime<Utc>,
-) -> Option<Report> {
-    fit_satellite(orbit, samples, observer, centre, measured)
-}
-
-impl Orbit for OrbitModel {
+impl TabulatedOrbit for OrbitModel {
     fn model(&self, instant: DateTime<Utc>) -> Option<[f64; 32]> {
         model(self, instant).map(|model| numbers(&model))
     }
 
+    #[inline(never)]
     fn propagate(&self, instant: DateTime<Utc>) -> Option<Motion> {
-        propagate(self, instant)
+        self.propagate_ecef(instant)
     }
 
+    #[inline(never)]
     fn closest(&self, observer: [f64; 3], instant: DateTime<Utc>) -> Option<DateTime<Utc>> {
-        closest(self, observer, instant)
+        find_pca_time(self, observer, instant)
     }
 
+    #[inline(never)]
     fn fit(
         &self,
         samples: &Samples,
@@ -80,6 +55,6 @@ impl Orbit for OrbitModel {
         centre: f64,
         measured: DateTime<Utc>,
     ) -> Option<Report> {
-        fit(self, samples, observer, centre, measured)
+        fit_satellite(self, samples, observer, centre, measured)
     }
 }
