@@ -42,7 +42,7 @@ abbrev model_with : List Float → Coefficients → ChebyshevOrbit
 model_with t c = record { t0 = record { 0 = first_time t }; t9 = record { 0 = last_time t }; cx = c.cx; cy = c.cy; cz = c.cz }
 
 -- by an inversion that is not refused
-made_is : (o : Outcome Matrix) (t positions : List Float) (start : ℕ) (x y z : Row) → Told o → refusal_in o ≡ 0
+pub made_is : (o : Outcome Matrix) (t positions : List Float) (start : ℕ) (x y z : Row) → Told o → refusal_in o ≡ 0
     → x ≡ coefficients (rows_of o) positions start 0 → y ≡ coefficients (rows_of o) positions start 1 → z ≡ coefficients (rows_of o) positions start 2
     → answered (model_with t (record { cx = x; cy = y; cz = z })) ≡ model_or o t positions start
 made_is (refused zero) t positions start x y z told h ex ey ez = absurd told
@@ -50,7 +50,7 @@ made_is (refused (suc n)) t positions start x y z told h ex ey ez = absurd (omeg
 made_is (answered v) t positions start x y z told h ex ey ez = rw (ex, ey, ez)
 
 -- by an inversion that gave coefficients
-through_is : (o : Outcome Matrix) (t positions : List Float) (start : ℕ) (c : Coefficients)
+pub through_is : (o : Outcome Matrix) (t positions : List Float) (start : ℕ) (c : Coefficients)
     → answered c ≡ mapped (coefficients_of (axis_of positions start 0) (axis_of positions start 1) (axis_of positions start 2)) o
     → answered (model_with t c) ≡ model_or o t positions start
 through_is o t positions start c e = ap (mapped (model_with t)) e ∙ through_with o

@@ -100,7 +100,7 @@ found_at k found (x ∷ xs) t (suc r) u p h =
     found_at (k + 1) (cond (le_z x t) k found) xs t r (omega arith) p (λ j v w. h (suc j) (omega arith) (omega arith)) ∙ e
 
 -- r is the last at or before t, or 0 where none is
-last_is : (ts : List ℤ) (t : ℤ) (r : ℕ) → r < length ts → (r ≡ 0) ⊎ (le_z (at ts r) t ≡ true) → ((j : ℕ) → r < j → j < length ts → le_z (at ts j) t ≡ false) → r ≡ last_before ts t
+pub last_is : (ts : List ℤ) (t : ℤ) (r : ℕ) → r < length ts → (r ≡ 0) ⊎ (le_z (at ts r) t ≡ true) → ((j : ℕ) → r < j → j < length ts → le_z (at ts j) t ≡ false) → r ≡ last_before ts t
 last_is ts t r u (inr p) h = let e : r ≡ 0 + r = omega arith in e ∙ sym (found_at 0 0 ts t r u p h)
 last_is ts t r u (inl e) h = go (le_z (at ts r) t) refl
   where

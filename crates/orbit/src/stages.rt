@@ -172,6 +172,7 @@ impl<'t, 'r> Fitting<'t, 'r> {
             Some(coarse),
             values,
         )?;
-        self.run_stage(Stage::about(fine.shift.seconds, MICRO), Some(fine), values)
+        let micro = self.run_stage(Stage::about(fine.shift.seconds, MICRO), Some(fine), values)?;
+        Some(micro)
     }
 }

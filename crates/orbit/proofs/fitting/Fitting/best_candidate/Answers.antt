@@ -6,7 +6,7 @@ use Rattle.std.specs.Prelude.{Some, None}
 use Rattle.float.specs.Bounds.{Within}
 use Rattle.orbit.specs.declared.stages.Stage.{Stage}
 use Rattle.orbit.specs.Bounds.{SmallStage, farthest_coarse, farthest_fine}
-use Rattle.orbit.specs.Fit.{fine_stage}
+use Rattle.orbit.specs.Fit.{fine_stage, micro_stage}
 use Rattle.orbit.specs.Fitting.{trial_by, trial_in, best_in, after_stage}
 use Rattle.orbit.proofs.Trials.{shift_is}
 use Rattle.orbit.proofs.Updates.{BestWithin}
@@ -44,6 +44,13 @@ run_stage-requires-2 c =
     let near_fine : Within farthest_fine fine.shift.seconds.0 = subst (BestWithin farthest_fine) (sym after) (fine_small try (shift_is _ _) (trial_in coarse) near) in
     subst SmallStage (sym c.about-2.ensures) (micro_fits fine.shift.seconds.0 near_fine)
 
+pub returns-in_err-micro : goal.returns-in_err-micro
+unfolding of_bits
+returns-in_err-micro c =
+    let try = trial_by c.args.self.now in
+    let start = best_in (Some c.in_ok-fine.fine) in
+    absurd (never_lost try (micro_stage c.in_ok-fine.fine.shift.seconds.0) _ (c.in_err-micro.ensures ∙ ap (λ (x : Stage). after_stage try x start) c.about-2.ensures))
+
 pub returns : goal.returns
 unfolding of_bits
 returns c =
@@ -52,6 +59,6 @@ returns c =
     let fine = c.in_ok-fine.fine in
     let start = best_in (Some coarse) in
     let after : best_in (Some fine) ≡ after_stage try (fine_stage coarse.shift.seconds.0) start = c.in_ok-fine.ensures ∙ ap (λ (x : Stage). after_stage try x start) c.about.ensures in
-    c.run_stage-2.ensures
+    c.in_ok-micro.ensures
     ∙ ap (λ (x : Stage). after_stage try x (best_in (Some fine))) c.about-2.ensures
     ∙ all_stages try c.args.centre.0 (trial_in coarse) (trial_in fine) c.in_ok-coarse.ensures after
