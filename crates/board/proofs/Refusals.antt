@@ -1,20 +1,34 @@
--- No refusal is that both checks pass. Assumes nothing.
-use mathlib.Core.Path.{◌≡◌, ◌∙◌}
-use mathlib.Core.Bool.{false}
+-- The refusals in their order, by the laws of the first check that fails: 14, then 15, and none where both checks pass. Assumes nothing.
+use mathlib.Core.Path.{◌≡◌, sym, ◌∙◌}
+use mathlib.Core.Bool.{true, false}
+use mathlib.Core.Logic.{◌⊎◌, inl, inr}
 use mathlib.Core.List.{List, [], ◌∷◌}
 use Prim.Native.Nat.{ℕ, ◌≤◌, ◌<◌}
 use native.Mathlib.Omega.{arith}
-use borrow.Author.Tests.{ltb-false, eqb-false, ne_eqb, le-ltb}
+use borrow.Author.Tests.{ltb-false, eqb-false, eq-eqb, ne_eqb, lt-ltb, le-ltb}
 use lib.Dec.{ltb, eqb}
 use lib.ListN.{length}
 use Rattle.checks.specs.Checks.{any}
 use Rattle.checks.specs.Entries.{check, first_failing}
-use Rattle.checks.proofs.First.{first_passes, none_fails, passes_first, neither}
+use Rattle.checks.proofs.First.{first-fails, first_passes, none_fails, passes_first, neither}
 use Rattle.board.specs.declared.entries.Entry.{Entry}
 use Rattle.board.specs.Board.{most_entries, entries_miscounted, entry_not_finite, board_refusal}
 
 pub well_counted : (n : ℕ) → (n ≡ 0 → ⊥) → n ≤ most_entries → entries_miscounted n ≡ false
 well_counted n h k = rw (ne_eqb n 0 h, le-ltb most_entries n k)
+
+-- ---- the refusals in their order
+
+pub miscounted : (n : ℕ) → (n ≡ 0) ⊎ (most_entries < n) → entries_miscounted n ≡ true
+miscounted n (inl h) = rw (eq-eqb n 0 h)
+miscounted n (inr h) = rw (lt-ltb most_entries n h, ne_eqb n 0 (λ (e : n ≡ 0). omega arith))
+
+pub miscounted_first : (es : List Entry) → (length es ≡ 0) ⊎ (most_entries < length es) → 14 ≡ board_refusal es
+miscounted_first es h = sym (first-fails (check 14 (entries_miscounted (length es))) _ (miscounted (length es) h))
+
+pub not_finite_first : (es : List Entry) → 0 < length es → length es ≤ most_entries → any entry_not_finite es ≡ true → 15 ≡ board_refusal es
+not_finite_first es h k f =
+    sym (first_passes (check 14 (entries_miscounted (length es))) _ (well_counted (length es) (λ c. omega arith) k) ∙ first-fails (check 15 (any entry_not_finite es)) _ f)
 
 -- ---- no refusal
 

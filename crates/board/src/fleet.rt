@@ -18,7 +18,6 @@ fn any_not_finite(entries: &[Entry]) -> bool
 }
 
 // Refuses no entry or too many, and then an entry with a double that is not finite.
-#[tactic(auto, unfolding(checks::specs::Entries::first_failing))]
 fn refuse_board(entries: &[Entry]) -> Result<(), Refusal>
     ensures { refusal_of result ≡ board_refusal entries.now }
 {
