@@ -1,7 +1,12 @@
 // The entries of a board, of the words of a case. An entry is five words: its satellite, its instant, and the bits of its three doubles.
-use crate::numbers::double;
+ghost use Rattle.std.specs.Prelude.{◌≡◌};
+ghost use Rattle.common.specs.Refusals.{told};
+ghost use Rattle.board.specs.Board.{fleet_board};
+
+use crate::numbers::{double, signed};
 use crate::words::Words;
 use board::{Entry, MOST_ENTRIES};
+use common::Refusal;
 use std::alloc::{AllocError, Global};
 use units::{Hertz, Nanoseconds, Seconds};
 
@@ -19,7 +24,7 @@ fn entry_of(words: &[u64]) -> Option<Entry> {
     let satellite = u16::try_from(*satellite).ok()?;
     Some(Entry {
         satellite,
-        instant: Nanoseconds(instant.cast_signed()),
+        instant: Nanoseconds(signed(*instant)),
         clock_offset: Seconds(double(*clock_offset)),
         frequency_offset: Hertz(double(*frequency_offset)),
         rmse: Hertz(double(*rmse)),
@@ -36,4 +41,11 @@ pub(crate) fn entries_of(
         return Ok(None);
     }
     slice.chunks(ENTRY_WORDS).map(entry_of).collect(alloc)
+}
+
+// The board of the entries.
+pub(crate) fn board_of(entries: &[Entry]) -> Result<Seconds, Refusal>
+    ensures { told (λ t. t.0) result ≡ fleet_board entries.now }
+{
+    board::fleet_board(entries)
 }

@@ -3,8 +3,8 @@
 // One more entry is one more arm in `answer`, by its name, and a method.
 ghost use Rattle.std.specs.Prelude.{◌≡◌, ◌+◌, length, IfOk, IfSome, IsSomeAnd};
 
-use crate::boards::entries_of;
-use crate::numbers::double;
+use crate::boards::{board_of, entries_of};
+use crate::numbers::{double, signed};
 use crate::printer::{Answer, put_all};
 use crate::words::Words;
 use checks::MOST_SAMPLES;
@@ -82,7 +82,7 @@ impl<W: Write> Case<'_, W> {
     {
         let instants = self.words.slice();
         let numbers = self.words.slice();
-        let instants = instants.iter().map(|word| word.cast_signed());
+        let instants = instants.iter().map(|word| signed(*word));
         let numbers = numbers.iter().map(|word| double(*word));
         Ok((instants.collect(self.alloc)?, numbers.collect(self.alloc)?))
     }
@@ -276,7 +276,7 @@ impl<W: Write> Case<'_, W> {
         let Some(entries) = entries_of(self.alloc, &mut self.words)? else {
             return Ok(false);
         };
-        board::fleet_board(&entries).put(self.out)?;
+        board_of(&entries).put(self.out)?;
         Ok(true)
     }
 }

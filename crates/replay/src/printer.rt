@@ -1,4 +1,5 @@
 // Answers, put on the output word by word, a blank before each.
+use crate::numbers::unsigned;
 use chebyshev::Evaluation;
 use common::Refusal;
 use orbit::{ChebyshevOrbit, Located, Motion, Place, Report};
@@ -27,7 +28,7 @@ impl Answer for u64 {
 // A whole number's two's complement.
 impl Answer for i64 {
     fn put(&self, out: &mut impl Write) -> io::Result<()> {
-        self.cast_unsigned().put(out)
+        unsigned(*self).put(out)
     }
 }
 

@@ -1,7 +1,9 @@
 // The words of a line, taken in turn by the entry that it names: slices, each after its length, and single words.
+ghost use Rattle.std.specs.Int.{w64};
+ghost use Rattle.std.proofs.Common.{of_z};
 ghost use Rattle.std.specs.Prelude.{◌≡◌, ◌∷◌, ◌++◌, [], length, IfNone, IfSome, IsSomeAnd, MatchOption, false, nat_eq};
 
-use crate::numbers::double;
+use crate::numbers::{double, signed};
 use checks::{AXES, MOST_COORDINATES, MOST_SAMPLES};
 use std::alloc::{AllocError, Global};
 use std::array;
@@ -64,8 +66,10 @@ impl<'a> Words<'a> {
     }
 
     // The next word, as the whole number of which it is the two's complement.
-    pub(crate) fn whole(&mut self) -> i64 {
-        self.word().cast_signed()
+    pub(crate) fn whole(&mut self) -> i64
+        ensures { IfSome self.new.own (λ rest. IsSomeAnd self.old.own (λ own. own.now ≡ of_z w64 result ∷ rest.now)) }
+    {
+        signed(self.word())
     }
 
     // The next word, as the double whose bits it has.
