@@ -11,4 +11,5 @@ pub mod fleet;
 pub mod inputs;
 pub mod place;
 pub mod reference;
+pub mod roots;
 pub mod words;

@@ -7,6 +7,7 @@ use compare::inputs::paper;
 use compare::inputs::random::Random;
 use compare::inputs::{doubles, integers};
 use compare::reference;
+use compare::roots::nearest_root;
 use compare::words::{hex, hex_whole, same};
 
 /// How many random bit patterns each function gets.
@@ -58,7 +59,7 @@ fn timed<T>(mut draw: impl FnMut() -> T) -> Vec<T> {
     (0..TIMED).map(|_| draw()).collect()
 }
 
-/// The root, against the hardware's.
+/// The root, against the hardware's and against one by whole numbers.
 fn compare_roots(total: &mut Total) {
     let mut tally = Tally::new("sqrt");
     let mut random = Random::new(1);
@@ -83,9 +84,15 @@ fn compare_roots(total: &mut Total) {
 
 /// One root.
 fn compare_root(tally: &mut Tally, x: f64) {
-    let (ours, rust) = (ours::sqrt(x), reference::sqrt(x));
-    tally.record(same(ours, rust), || {
-        format!("{}: ours {}, Rust {}", hex(x), hex(ours), hex(rust))
+    let (ours, rust, exact) = (ours::sqrt(x), reference::sqrt(x), nearest_root(x));
+    tally.record(same(ours, rust) && same(ours, exact), || {
+        format!(
+            "{}: ours {}, Rust {}, by whole numbers {}",
+            hex(x),
+            hex(ours),
+            hex(rust),
+            hex(exact)
+        )
     });
 }
 
