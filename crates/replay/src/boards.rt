@@ -1,4 +1,4 @@
-// The entries of a board, of the words of a case. An entry is five words: its satellite, its instant, and the bits of its three doubles.
+// The entries of a board, of the words of a case, and their board. An entry is five words: its satellite, its instant, and the bits of its three doubles.
 ghost use Rattle.std.specs.Prelude.{◌≡◌};
 ghost use Rattle.common.specs.Refusals.{told};
 ghost use Rattle.board.specs.Board.{fleet_board};

@@ -15,7 +15,7 @@ use entries::Case;
 use line::Line;
 use std::alloc::Global;
 use std::io;
-use std::io::{BufReader, BufWriter, Read, Write};
+use std::io::{BufRead, BufReader, BufWriter, ErrorKind, Write};
 
 // Answers a line that is read to its end.
 fn answer_line(alloc: Global, out: &mut impl Write, line: &Line) -> io::Result<()> {
@@ -29,18 +29,44 @@ fn answer_line(alloc: Global, out: &mut impl Write, line: &Line) -> io::Result<(
     out.write_all(b" bad case\n")
 }
 
-// Answers every line of the input that a line feed ends, and each before the next is read.
-fn answer_all(alloc: Global, input: impl Read + Drop, out: &mut impl Write) -> io::Result<()> {
-    let mut line = Line::new(alloc)?;
-    for byte in input.bytes() {
-        let byte = byte?;
-        if byte == b'\n' {
-            answer_line(alloc, out, &line)?;
+// Takes bytes of the input: every line that a line feed ends is answered before the next is read.
+fn take_bytes(
+    alloc: Global,
+    out: &mut impl Write,
+    line: &mut Line,
+    bytes: &[u8],
+) -> io::Result<()> {
+    for byte in bytes {
+        if *byte == b'\n' {
+            answer_line(alloc, out, line)?;
             out.flush()?;
             line.begin();
         } else {
-            line.take(byte);
+            line.take(*byte);
         }
+    }
+    Ok(())
+}
+
+// Answers every line of the input that a line feed ends. By what each read gives, since std's `bytes` asks its reader anew for each; a proved loop has
+// to end, so the reads are counted up to a number that no run uses up.
+fn answer_all(
+    alloc: Global,
+    mut input: impl BufRead + Drop,
+    out: &mut impl Write,
+) -> io::Result<()> {
+    let mut line = Line::new(alloc)?;
+    for _ in 0..u64::MAX {
+        let bytes = match input.fill_buf() {
+            Err(e) if e.kind() == ErrorKind::Interrupted => continue,
+            read => read?,
+        };
+        if bytes.is_empty() {
+            break;
+        }
+        let count = bytes.len();
+        take_bytes(alloc, out, &mut line, bytes)?;
+        input.consume(count);
     }
     Ok(())
 }

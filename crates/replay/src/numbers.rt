@@ -1,4 +1,4 @@
-// Digits and bits as numbers.
+// Digits and words as numbers, and back.
 ghost use Rattle.std.specs.Prelude.{◌≡◌, ◌≢◌, ℕ, ◌<◌, MatchOption, from_bits};
 ghost use Rattle.std.specs.Float.{binary64};
 ghost use Rattle.std.specs.Int.{w64};
