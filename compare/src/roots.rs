@@ -1,7 +1,7 @@
 //! The root by whole numbers alone, written from IEEE 754's words: the library's root is the machine's instruction, and so is the Rust's, so that
 //! neither could tell a slip of that.
 
-/// How many bits a root is worked out to: a double's 53, one that says which way to round, and whether anything is left tells the rest.
+/// How many bits a root is worked out to: a double's 53 and one that says which way to round; whether anything is left tells the rest.
 const ROOT_BITS: u32 = 54;
 
 /// The double nearest the exact root of x, ties to even: a zero and infinity give themselves, a negative number and NaN give NaN.

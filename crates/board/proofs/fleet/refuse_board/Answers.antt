@@ -1,4 +1,4 @@
--- No entry or too many is 14; a double that is not finite is 15 where the entries are neither; and where they are no such thing it is no refusal. Assumes nothing.
+-- No entry or too many is 14; a double that is not finite is 15 where the entries are neither; else it is no refusal. Assumes nothing.
 use mathlib.Core.Path.{◌≡◌, sym, ◌∙◌}
 use mathlib.Core.Bool.{true, false}
 use mathlib.Core.List.{List}
